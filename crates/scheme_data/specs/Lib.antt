@@ -1,0 +1,4 @@
+pub mod Data
+pub mod Decimal
+pub mod Fixnum
+pub mod Symbols

@@ -1,0 +1,19 @@
+//! Byte texts, lists, places, data and fixnum words: what every other crate speaks of.
+#![tactic(auto)]
+
+mod datum;
+mod fixnum;
+mod list;
+mod number;
+mod stack;
+mod text;
+
+pub use datum::{Datum, LimitKind, Place};
+pub use fixnum::{box_long, is_in_range, is_long, unbox_long};
+pub use list::{CallList, List, TextList};
+pub use number::{NumberText, number_of_text, push_number};
+pub use stack::Stack;
+pub use text::{OutOfMemory, Text};
+
+#[cfg(test)]
+mod tests;
