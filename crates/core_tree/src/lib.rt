@@ -1,0 +1,6 @@
+//! The tree of a module: what the definitions give a meaning to and the generator translates.
+#![tactic(auto)]
+
+mod tree;
+
+pub use tree::{Const, Lambda, Module, Node, Top, VarId};
