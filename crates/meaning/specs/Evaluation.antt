@@ -1,0 +1,50 @@
+-- Evaluation (R5RS section 4): operator and arguments left to right, and one turn for each call of a user procedure.
+use Rattle.std.specs.Prelude.{ℕ, zero, suc, List, [], ◌∷◌, length, Option, Some, None, ℤ}
+use Rattle.core_tree.specs.declared.tree.Const.{Const}
+use Rattle.core_tree.specs.declared.tree.Const.TheVariants.{Int}
+use Rattle.core_tree.specs.declared.tree.VarId.{VarId}
+use Rattle.core_tree.specs.Tree.{Tree, Constant, Sequence, Primitive, Trees, none, more, FunctionTree}
+use Rattle.meaning.specs.Value.{Value, Fixnum, Unspecified, State, Outcome, Gives, Spends, bind, take_turn}
+use Rattle.meaning.specs.Primitives.{primitive, counted}
+
+-- the variables in scope, newest first
+abbrev pub Environment : Type 0
+Environment = List (VarId × Value)
+
+-- what a body does after its turn was taken, with a smaller bound
+abbrev pub Lower : Type 0
+Lower = Tree → Environment → State → Outcome Value
+
+abbrev pub bound : List VarId → List Value → Environment → Environment
+bound (x ∷ xs) (v ∷ vs) env = (x, v) ∷ bound xs vs env
+bound [] vs env = env
+bound (x ∷ xs) [] env = env
+
+-- a call of a function: the number of its arguments, a turn, the body
+abbrev pub apply : Lower → FunctionTree → List Value → State → Outcome Value
+apply lower f vs s = counted (length f.params) (length vs) s (take_turn s (λ s1. lower f.body (bound f.params vs []) s1))
+
+abbrev pub constant : Const → Value
+constant (Int n) = Fixnum n
+
+module _ (lower : Lower) where
+  abbrev mutual
+    pub ev : Tree → Environment → State → Outcome Value
+    ev (Constant c) env s = Gives (constant c) s
+    ev (Sequence ts) env s = ev_last ts Unspecified env s
+    ev (Primitive p ts) env s = bind (evs ts env s) (λ vs s1. primitive p vs s1)
+
+    -- in order; the value of the last part
+    pub ev_last : Trees → Value → Environment → State → Outcome Value
+    ev_last none v env s = Gives v s
+    ev_last (more t ts) v env s = bind (ev t env s) (λ w s1. ev_last ts w env s1)
+
+    -- left to right
+    pub evs : Trees → Environment → State → Outcome (List Value)
+    evs none env s = Gives [] s
+    evs (more t ts) env s = bind (ev t env s) (λ v s1. bind (evs ts env s1) (λ vs s2. Gives (v ∷ vs) s2))
+
+-- with a bound that is at least the turns left
+abbrev pub run : ℕ → Lower
+run zero t env s = Spends s
+run (suc b) t env s = ev (run b) t env s

@@ -1,0 +1,60 @@
+-- What the primitives do: the number of arguments, then their types left to right, then the act (R5RS sections 6.2.5 and 6.6.3).
+use Rattle.std.specs.Prelude.{ℕ, ◌+◌, List, [], ◌∷◌, ◌++◌, length, codes, nat_eq, ℤ, ◌+ℤ◌, Bool, true, false, if◌then◌else◌}
+use Rattle.scheme_data.specs.Decimal.{decimal_text, number_text}
+use Rattle.scheme_data.specs.Fixnum.{is_fixnum}
+use Rattle.prim_table.specs.declared.primitives.Ty.{Ty}
+use Rattle.prim_table.specs.declared.primitives.Ty.TheVariants.{Obj, Long}
+use Rattle.prim_table.specs.declared.primitives.Primitive.{Primitive}
+use Rattle.prim_table.specs.declared.primitives.Primitive.TheVariants.{Add, Display, Newline}
+use Rattle.prim_table.specs.Table.{name_of, params_of, type_name}
+use Rattle.meaning.specs.Value.{Value, Fixnum, Empty, Unspecified, State, Outcome, Gives, Raises, Spends}
+
+abbrev pub fits : Ty → Value → Bool
+fits Obj v = true
+fits Long (Fixnum n) = true
+fits Long Empty = false
+fits Long Unspecified = false
+
+-- error 2, whose text is the number wanted
+abbrev pub counted : {A : Type 0} → ℕ → ℕ → State → Outcome A → Outcome A
+counted want have s next = if nat_eq have want then next else Raises 2 (decimal_text want) s
+
+-- the first value that isn't of its type raises error 1, whose text is the type's name
+abbrev pub tested : {A : Type 0} → List Ty → List Value → State → Outcome A → Outcome A
+tested (t ∷ ts) (v ∷ vs) s next = if fits t v then tested ts vs s next else Raises 1 (type_name t) s
+tested [] vs s next = next
+tested (t ∷ ts) [] s next = next
+
+-- how `display` prints a value
+abbrev pub printed : Value → List ℕ
+printed (Fixnum n) = number_text n
+printed Empty = codes "()"
+printed Unspecified = codes "#unspecified"
+
+abbrev pub print : List ℕ → State → State
+print text s = record s { output = s.output ++ text }
+
+-- error 3 outside the fixnum range
+abbrev pub in_range : ℤ → List ℕ → State → Outcome Value
+in_range n text s = if is_fixnum n then Gives (Fixnum n) s else Raises 3 text s
+
+abbrev pub add : List Value → State → Outcome Value
+add (Fixnum a ∷ Fixnum b ∷ []) s = in_range (a +ℤ b) (name_of Add) s
+add _ s = Spends s
+
+abbrev pub display : List Value → State → Outcome Value
+display (v ∷ []) s = Gives Unspecified (print (printed v) s)
+display _ s = Spends s
+
+abbrev pub newline : List Value → State → Outcome Value
+newline [] s = Gives Unspecified (print (10 ∷ []) s)
+newline _ s = Spends s
+
+-- the act of a primitive on as many values of its types as it has parameters; on others it is never asked
+abbrev pub act : Primitive → List Value → State → Outcome Value
+act Add = add
+act Display = display
+act Newline = newline
+
+abbrev pub primitive : Primitive → List Value → State → Outcome Value
+primitive p vs s = counted (length (params_of p)) (length vs) s (tested (params_of p) vs s (act p vs s))

@@ -1,0 +1,58 @@
+-- Worked rows: what small modules print, and how they end.
+use Rattle.std.specs.Prelude.{◌≡◌, ℕ, List, [], ◌∷◌, ◌++◌, codes, pos, Some, refl}
+use Rattle.base_io.specs.declared.end.End.{End}
+use Rattle.base_io.specs.declared.end.End.TheVariants.{Ended, Raised, Spent}
+use Rattle.prim_table.specs.declared.primitives.Primitive.TheVariants.{Add, Display, Newline}
+use Rattle.core_tree.specs.declared.tree.Const.TheVariants.{Int}
+use Rattle.core_tree.specs.declared.tree.VarId.{VarId}
+use Rattle.core_tree.specs.Tree.{Tree, Constant, Sequence, Primitive, Trees, none, more, FunctionTree, ModuleTree}
+use Rattle.scheme_data.specs.Decimal.{decimal_text}
+use Rattle.base_io.specs.Observation.{Observation}
+use Rattle.meaning.specs.Program.{src}
+
+abbrev pub int : ℕ → Tree
+int n = Constant (Int (pos n))
+
+abbrev pub sum_of : Tree → Tree → Tree
+sum_of a b = Primitive Add (more a (more b none))
+
+abbrev pub shown : Tree → Tree
+shown t = Primitive Display (more t none)
+
+abbrev pub line_end : Tree
+line_end = Primitive Newline none
+
+-- `(module hello (main go)) (define (go args) ...)`
+abbrev pub program : Trees → ModuleTree
+program body = record { name = codes "hello"; functions = record { name = codes "go"; params = record { 0 = 0 } ∷ []; body = Sequence body } ∷ []; main = Some (codes "go") }
+
+abbrev pub observation : List ℕ → End → Observation
+observation output end = record { output = output; end = end }
+
+hello_prints_42 : src (program (more (shown (sum_of (int 40) (int 2))) (more line_end none))) [] [] 1 ≡ observation (codes "42" ++ 10 ∷ []) (Ended 0)
+unfolding src decimal_text
+hello_prints_42 = refl
+
+no_turn_is_left : src (program (more (shown (int 1)) none)) [] [] 0 ≡ observation [] Spent
+unfolding src decimal_text
+no_turn_is_left = refl
+
+sum_leaves_range : src (program (more (shown (sum_of (int 1152921504606846975) (int 1))) none)) [] [] 1 ≡ observation [] (Raised 3 (codes "+"))
+unfolding src decimal_text
+sum_leaves_range = refl
+
+sum_in_range : src (program (more (shown (sum_of (int 1152921504606846974) (int 1))) none)) [] [] 1 ≡ observation (codes "1152921504606846975") (Ended 0)
+unfolding src decimal_text
+sum_in_range = refl
+
+arguments_come_before_their_types : src (program (more (sum_of (shown (int 1)) (shown (int 2))) none)) [] [] 1 ≡ observation (codes "12") (Raised 1 (codes "long"))
+unfolding src decimal_text
+arguments_come_before_their_types = refl
+
+result_is_the_status : src (program (more (sum_of (int 200) (int 55)) none)) [] [] 1 ≡ observation [] (Ended 255)
+unfolding src decimal_text
+result_is_the_status = refl
+
+large_result_is_status_0 : src (program (more (int 256) none)) [] [] 1 ≡ observation [] (Ended 0)
+unfolding src decimal_text
+large_result_is_status_0 = refl
