@@ -1,0 +1,159 @@
+-- The C grammar: the tokens of each production in front of a rest, and which names may stand where.
+use Rattle.std.specs.Prelude.{◌≡◌, ℕ, List, [], ◌∷◌, codes, IsTrue}
+use Rattle.scheme_data.specs.Decimal.{number_text}
+use Rattle.scheme_data.specs.Fixnum.{IsFixnum}
+use Rattle.c_tree.specs.declared.tree.CTy.{CTy}
+use Rattle.c_tree.specs.declared.tree.CTy.TheVariants as ty
+use Rattle.c_tree.specs.declared.tree.CAtom.{CAtom}
+use Rattle.c_tree.specs.declared.tree.CAtom.TheVariants as atom
+use Rattle.c_tree.specs.declared.tree.CArg.{CArg}
+use Rattle.c_tree.specs.declared.tree.CArg.TheVariants as arg
+use Rattle.c_tree.specs.declared.tree.Callee.{Callee}
+use Rattle.c_tree.specs.declared.tree.Callee.TheVariants as callee
+use Rattle.c_tree.specs.declared.tree.CCall.{CCall}
+use Rattle.c_tree.specs.declared.tree.CExpr.{CExpr}
+use Rattle.c_tree.specs.declared.tree.CExpr.TheVariants as expr
+use Rattle.c_tree.specs.declared.tree.CVar.{CVar}
+use Rattle.c_tree.specs.declared.tree.Token.{Token}
+use Rattle.c_tree.specs.declared.tree.Token.TheVariants.{Word, Mark, Str}
+use Rattle.c_tree.specs.Code.{Code, done, assign, call, return, loop, Item, declared, defined}
+use Rattle.c_tree.specs.Operations.{op_text}
+use Rattle.c_tree.specs.Names.{is_function_name, is_local_name, is_label_name}
+use Rattle.c_tree.specs.Lexical.{tokens}
+
+abbrev pub type_text : CTy → List ℕ
+type_text ty.Obj = codes "obj"
+type_text ty.Long = codes "long"
+type_text ty.Char = codes "char"
+type_text ty.Int = codes "int"
+
+abbrev pub atom_text : CAtom → List ℕ
+atom_text (atom.Int n) = number_text n
+atom_text (atom.Name x) = x
+atom_text atom.False = codes "BGL_FALSE"
+atom_text atom.True = codes "BGL_TRUE"
+atom_text atom.Nil = codes "BGL_NIL"
+atom_text atom.Unspec = codes "BGL_UNSPEC"
+atom_text atom.Eof = codes "BGL_EOF"
+
+abbrev pub callee_text : Callee → List ℕ
+callee_text (callee.Fun name) = name
+callee_text (callee.Op op) = op_text op
+
+-- Tokens ------------------------------------------------------------------------------------
+
+abbrev pub argument_token : CArg → Token
+argument_token (arg.Atom a) = Word (atom_text a)
+argument_token (arg.Str text) = Str text
+
+abbrev pub more_arguments : List CArg → List Token → List Token
+more_arguments [] rest = rest
+more_arguments (a ∷ others) rest = Mark 44 ∷ argument_token a ∷ more_arguments others rest
+
+abbrev pub argument_tokens : List CArg → List Token → List Token
+argument_tokens [] rest = rest
+argument_tokens (a ∷ others) rest = argument_token a ∷ more_arguments others rest
+
+abbrev pub call_tokens : CCall → List Token → List Token
+call_tokens c rest = Word (callee_text c.callee) ∷ Mark 40 ∷ argument_tokens c.args (Mark 41 ∷ rest)
+
+abbrev pub expr_tokens : CExpr → List Token → List Token
+expr_tokens (expr.Atom a) rest = Word (atom_text a) ∷ rest
+expr_tokens (expr.Call c) rest = call_tokens c rest
+
+-- a block's statements
+abbrev pub code_tokens : Code → List Token → List Token
+code_tokens done rest = rest
+code_tokens (assign x e next) rest = Word x ∷ Mark 61 ∷ expr_tokens e (Mark 59 ∷ code_tokens next rest)
+code_tokens (call c next) rest = call_tokens c (Mark 59 ∷ code_tokens next rest)
+code_tokens (return e next) rest = Word (codes "return") ∷ expr_tokens e (Mark 59 ∷ code_tokens next rest)
+code_tokens (loop l body next) rest =
+    Word l ∷ Mark 58 ∷ Word (codes "for") ∷ Mark 40 ∷ Mark 59 ∷ Mark 59 ∷ Mark 41 ∷ Mark 123 ∷ code_tokens body (Mark 125 ∷ code_tokens next rest)
+
+abbrev pub more_types : List CTy → List Token → List Token
+more_types [] rest = rest
+more_types (t ∷ ts) rest = Mark 44 ∷ Word (type_text t) ∷ more_types ts rest
+
+-- `void` where there is none
+abbrev pub type_tokens : List CTy → List Token → List Token
+type_tokens [] rest = Word (codes "void") ∷ rest
+type_tokens (t ∷ ts) rest = Word (type_text t) ∷ more_types ts rest
+
+abbrev pub more_params : List CVar → List Token → List Token
+more_params [] rest = rest
+more_params (v ∷ vs) rest = Mark 44 ∷ Word (type_text v.ty) ∷ Word v.name ∷ more_params vs rest
+
+abbrev pub param_tokens : List CVar → List Token → List Token
+param_tokens [] rest = Word (codes "void") ∷ rest
+param_tokens (v ∷ vs) rest = Word (type_text v.ty) ∷ Word v.name ∷ more_params vs rest
+
+abbrev pub local_tokens : List CVar → List Token → List Token
+local_tokens [] rest = rest
+local_tokens (v ∷ vs) rest = Word (type_text v.ty) ∷ Word v.name ∷ Mark 59 ∷ local_tokens vs rest
+
+abbrev pub item_tokens : Item → List Token → List Token
+item_tokens (declared t name params) rest = Word (type_text t) ∷ Word name ∷ Mark 40 ∷ type_tokens params (Mark 41 ∷ Mark 59 ∷ rest)
+item_tokens (defined f) rest =
+    Word (type_text f.result) ∷ Word f.name ∷ Mark 40 ∷ param_tokens f.params (Mark 41 ∷ Mark 123 ∷ local_tokens f.locals (code_tokens f.code (Mark 125 ∷ rest)))
+
+abbrev pub items_tokens : List Item → List Token → List Token
+items_tokens [] rest = rest
+items_tokens (i ∷ is) rest = item_tokens i (items_tokens is rest)
+
+-- Names -------------------------------------------------------------------------------------
+
+abbrev pub NamedAtom : CAtom → Type 0
+NamedAtom (atom.Int n) = IsFixnum n
+NamedAtom (atom.Name x) = IsTrue (is_local_name x)
+NamedAtom _ = Unit {0}
+
+abbrev pub NamedArgument : CArg → Type 0
+NamedArgument (arg.Atom a) = NamedAtom a
+NamedArgument (arg.Str text) = Unit {0}
+
+abbrev pub NamedArguments : List CArg → Type 0
+NamedArguments [] = Unit {0}
+NamedArguments (a ∷ others) = NamedArgument a × NamedArguments others
+
+abbrev pub NamedCallee : Callee → Type 0
+NamedCallee (callee.Fun name) = IsTrue (is_function_name name)
+NamedCallee (callee.Op op) = Unit {0}
+
+abbrev pub NamedCall : CCall → Type 0
+NamedCall c = NamedCallee c.callee × NamedArguments c.args
+
+abbrev pub NamedExpr : CExpr → Type 0
+NamedExpr (expr.Atom a) = NamedAtom a
+NamedExpr (expr.Call c) = NamedCall c
+
+abbrev pub NamedCode : Code → Type 0
+NamedCode done = Unit {0}
+NamedCode (assign x e next) = IsTrue (is_local_name x) × NamedExpr e × NamedCode next
+NamedCode (call c next) = NamedCall c × NamedCode next
+NamedCode (return e next) = NamedExpr e × NamedCode next
+NamedCode (loop l body next) = ⊥
+
+-- today a `for` stands only as the whole of a function's statements
+abbrev pub NamedBody : Code → Type 0
+NamedBody (loop l body next) = IsTrue (is_label_name l) × NamedCode body × (next ≡ done)
+NamedBody done = Unit {0}
+NamedBody (assign x e next) = NamedCode (assign x e next)
+NamedBody (call c next) = NamedCode (call c next)
+NamedBody (return e next) = NamedCode (return e next)
+
+abbrev pub NamedVars : List CVar → Type 0
+NamedVars [] = Unit {0}
+NamedVars (v ∷ vs) = IsTrue (is_local_name v.name) × NamedVars vs
+
+abbrev pub NamedItem : Item → Type 0
+NamedItem (declared t name params) = IsTrue (is_function_name name)
+NamedItem (defined f) = IsTrue (is_function_name f.name) × NamedVars f.params × NamedVars f.locals × NamedBody f.code
+
+abbrev pub NamedItems : List Item → Type 0
+NamedItems [] = Unit {0}
+NamedItems (i ∷ is) = NamedItem i × NamedItems is
+
+-- the bytes are a text of these items: of a unit, or of a program
+pub record CText (bytes : List ℕ) (items : List Item) : Type 0 where
+  pub spelled : tokens bytes ≡ items_tokens items []
+  pub named : NamedItems items
