@@ -1,0 +1,225 @@
+-- Checked programs: names are declared, distinct and agree, C types agree, and functions have their shapes.
+use Rattle.std.specs.Prelude.{ℕ, List, [], ◌∷◌, ◌++◌, map, codes, find, filter, nat_le, nat_lt, nat_eq, ℤ, pos, negsuc, Bool, true, false, not, ◌&&◌, ◌||◌, if◌then◌else◌, IsTrue, Option, Some, None}
+use Rattle.std.specs.List.{list_all, list_any}
+use Rattle.scheme_data.specs.Fixnum.{is_fixnum}
+use Rattle.prim_table.specs.declared.primitives.Primitive.TheVariants.{Add, Display, Newline}
+use Rattle.c_tree.specs.declared.op.Op.{Op}
+use Rattle.c_tree.specs.declared.op.Op.TheVariants.{BoxLong, UnboxLong, Raise, Args, Status, Primitive as Does}
+use Rattle.c_tree.specs.declared.tree.CTy.{CTy}
+use Rattle.c_tree.specs.declared.tree.CTy.TheVariants.{Obj, Long, Char, Int}
+use Rattle.c_tree.specs.declared.tree.CAtom.{CAtom}
+use Rattle.c_tree.specs.declared.tree.CAtom.TheVariants as atom
+use Rattle.c_tree.specs.declared.tree.CArg.{CArg}
+use Rattle.c_tree.specs.declared.tree.CArg.TheVariants as arg
+use Rattle.c_tree.specs.declared.tree.Callee.{Callee}
+use Rattle.c_tree.specs.declared.tree.Callee.TheVariants as callee
+use Rattle.c_tree.specs.declared.tree.CCall.{CCall}
+use Rattle.c_tree.specs.declared.tree.CExpr.{CExpr}
+use Rattle.c_tree.specs.declared.tree.CExpr.TheVariants as expr
+use Rattle.c_tree.specs.declared.tree.CVar.{CVar}
+use Rattle.c_tree.specs.Code.{Code, done, assign, call, return, loop, Fun, Item, declared, defined}
+use Rattle.c_tree.specs.Names.{is_module_function, is_main}
+use Rattle.c_meaning.specs.Execution.{is_same}
+
+abbrev pub same_type : CTy → CTy → Bool
+same_type Obj Obj = true
+same_type Long Long = true
+same_type Char Char = true
+same_type Int Int = true
+same_type _ _ = false
+
+abbrev pub same_types : List CTy → List CTy → Bool
+same_types [] [] = true
+same_types (t ∷ ts) (u ∷ us) = same_type t u && same_types ts us
+same_types _ _ = false
+
+-- Signatures --------------------------------------------------------------------------------
+
+pub record Signature : Type 0 where
+  pub name : List ℕ
+  pub result : CTy
+  pub params : List CTy
+
+abbrev pub signature_of : Item → Signature
+signature_of (declared t name params) = record { name = name; result = t; params = params }
+signature_of (defined f) = record { name = f.name; result = f.result; params = map (λ v. v.ty) f.params }
+
+abbrev pub same_signature : Signature → Signature → Bool
+same_signature a b = same_type a.result b.result && same_types a.params b.params
+
+-- the signature of a name among those declared so far
+abbrev pub signature_named : List Signature → List ℕ → Option Signature
+signature_named sigs name = find (λ s. is_same s.name name) sigs
+
+-- Types of expressions ----------------------------------------------------------------------
+
+-- a number fits `long`, and from 0 to 255 `char` and `int`
+abbrev pub is_byte : ℤ → Bool
+is_byte (pos n) = nat_lt n 256
+is_byte (negsuc n) = false
+
+abbrev pub number_fits : ℤ → CTy → Bool
+number_fits n Obj = false
+number_fits n Long = is_fixnum n
+number_fits n Char = is_byte n
+number_fits n Int = is_byte n
+
+abbrev pub is_typed : CTy → Option CVar → Bool
+is_typed t None = false
+is_typed t (Some v) = same_type t v.ty
+
+-- the variable of a name
+abbrev pub variable_named : List CVar → List ℕ → Option CVar
+variable_named vars x = find (λ v. is_same v.name x) vars
+
+abbrev pub atom_fits : List CVar → CAtom → CTy → Bool
+atom_fits vars (atom.Int n) t = number_fits n t
+atom_fits vars (atom.Name x) t = is_typed t (variable_named vars x)
+atom_fits vars atom.False t = same_type t Obj
+atom_fits vars atom.True t = same_type t Obj
+atom_fits vars atom.Nil t = same_type t Obj
+atom_fits vars atom.Unspec t = same_type t Obj
+atom_fits vars atom.Eof t = same_type t Obj
+
+-- what an operation asks of an argument: a C type, the number of an error, or a string
+pub data Wants : Type 0 where
+  AType : CTy → Wants
+  AnError : Wants
+  AText : Wants
+
+abbrev pub wants_of : Op → List Wants
+wants_of BoxLong = AType Long ∷ []
+wants_of UnboxLong = AType Obj ∷ []
+wants_of Raise = AnError ∷ AText ∷ []
+wants_of Args = []
+wants_of Status = AType Obj ∷ []
+wants_of (Does Add) = AType Long ∷ AType Long ∷ []
+wants_of (Does Display) = AType Obj ∷ []
+wants_of (Does Newline) = []
+
+abbrev pub gives_of : Op → CTy
+gives_of BoxLong = Obj
+gives_of UnboxLong = Long
+gives_of Raise = Int
+gives_of Args = Obj
+gives_of Status = Int
+gives_of (Does Add) = Long
+gives_of (Does Display) = Obj
+gives_of (Does Newline) = Obj
+
+abbrev pub is_error : ℤ → Bool
+is_error (pos n) = nat_le 1 n && nat_le n 10
+is_error (negsuc n) = false
+
+abbrev pub argument_fits : List CVar → Wants → CArg → Bool
+argument_fits vars (AType t) (arg.Atom a) = atom_fits vars a t
+argument_fits vars AnError (arg.Atom (atom.Int n)) = is_error n
+argument_fits vars AText (arg.Str text) = true
+argument_fits vars _ _ = false
+
+abbrev pub arguments_fit : List CVar → List Wants → List CArg → Bool
+arguments_fit vars [] [] = true
+arguments_fit vars (w ∷ ws) (a ∷ others) = argument_fits vars w a && arguments_fit vars ws others
+arguments_fit vars _ _ = false
+
+abbrev pub call_fits_signature : List CVar → Option Signature → List CArg → Option CTy
+call_fits_signature vars None args = None
+call_fits_signature vars (Some s) args = if arguments_fit vars (map AType s.params) args then Some s.result else None
+
+-- the type of a call, where its callee is declared and its arguments fit
+abbrev pub call_type : List Signature → List CVar → Callee → List CArg → Option CTy
+call_type sigs vars (callee.Fun name) args = call_fits_signature vars (signature_named sigs name) args
+call_type sigs vars (callee.Op op) args = if arguments_fit vars (wants_of op) args then Some (gives_of op) else None
+
+abbrev pub is_the_type : CTy → Option CTy → Bool
+is_the_type t None = false
+is_the_type t (Some u) = same_type t u
+
+abbrev pub has_type : Option CTy → Bool
+has_type None = false
+has_type (Some t) = true
+
+abbrev pub expr_fits : List Signature → List CVar → CExpr → CTy → Bool
+expr_fits sigs vars (expr.Atom a) t = atom_fits vars a t
+expr_fits sigs vars (expr.Call c) t = is_the_type t (call_type sigs vars c.callee c.args)
+
+abbrev pub assigned_fits : List Signature → List CVar → CExpr → Option CVar → Bool
+assigned_fits sigs vars e None = false
+assigned_fits sigs vars e (Some v) = expr_fits sigs vars e v.ty
+
+-- Statements --------------------------------------------------------------------------------
+
+-- statements without a loop, whose types agree, where the function gives the result type
+abbrev pub code_fits : List Signature → List CVar → CTy → Code → Bool
+code_fits sigs vars result done = true
+code_fits sigs vars result (assign x e rest) = assigned_fits sigs vars e (variable_named vars x) && code_fits sigs vars result rest
+code_fits sigs vars result (call c rest) = has_type (call_type sigs vars c.callee c.args) && code_fits sigs vars result rest
+code_fits sigs vars result (return e rest) = expr_fits sigs vars e result && code_fits sigs vars result rest
+code_fits sigs vars result (loop l body rest) = false
+
+-- the last statement is `return`
+abbrev pub returns_last : Code → Bool
+returns_last done = false
+returns_last (assign x e rest) = returns_last rest
+returns_last (call c rest) = returns_last rest
+returns_last (return e done) = true
+returns_last (return e rest) = returns_last rest
+returns_last (loop l body rest) = false
+
+-- Functions ---------------------------------------------------------------------------------
+
+abbrev pub are_distinct : List (List ℕ) → Bool
+are_distinct [] = true
+are_distinct (x ∷ xs) = not (list_any (is_same x) xs) && are_distinct xs
+
+abbrev pub variables_of : Fun → List CVar
+variables_of f = f.params ++ f.locals
+
+-- the statements of a module's function are one labelled `for`, in which today no function is called
+abbrev pub is_looped : List CVar → CTy → Code → Bool
+is_looped vars result (loop l body done) = code_fits [] vars result body
+is_looped vars result _ = false
+
+-- `main` takes `void` and gives `int`, and calls functions that were declared before
+abbrev pub is_main_function : List Signature → Fun → Bool
+is_main_function sigs f = (same_type f.result Int && same_types (map (λ v. v.ty) f.params) []) && (code_fits sigs f.locals Int f.code && returns_last f.code)
+
+abbrev pub function_fits : List Signature → Fun → Bool
+function_fits sigs f =
+    are_distinct (map (λ v. v.name) (variables_of f))
+    && (if is_main f.name then is_main_function sigs f else is_looped (variables_of f) f.result f.code)
+
+-- what a function may call: what is declared before it and defined in the text, but not `main`
+abbrev pub callable : List (List ℕ) → List Signature → List Signature
+callable names sigs = filter (λ s. not (is_main s.name) && list_any (is_same s.name) names) sigs
+
+abbrev pub item_fits : List (List ℕ) → List Signature → Item → Bool
+item_fits names sigs (declared t name params) = true
+item_fits names sigs (defined f) = function_fits (callable names sigs) f
+
+-- Programs ----------------------------------------------------------------------------------
+
+-- declarations of one name agree
+abbrev pub agrees : List Signature → Signature → Bool
+agrees sigs s = list_all (λ t. not (is_same t.name s.name) || same_signature t s) sigs
+
+-- the items after those of these signatures, the newest first, where these names are defined in the text
+abbrev pub items_fit : List (List ℕ) → List Signature → List Item → Bool
+items_fit names sigs [] = true
+items_fit names sigs (i ∷ is) = (agrees sigs (signature_of i) && item_fits names sigs i) && items_fit names (signature_of i ∷ sigs) is
+
+abbrev pub defined_names : List Item → List (List ℕ)
+defined_names [] = []
+defined_names (declared t name params ∷ is) = defined_names is
+defined_names (defined f ∷ is) = f.name ∷ defined_names is
+
+-- no rule is broken, and no function is defined twice
+unfoldable pub is_sound : List Item → Bool
+is_sound items = are_distinct (defined_names items) && items_fit (defined_names items) [] items
+
+-- and `main` is there
+unfoldable pub is_checked : List Item → Bool
+is_checked items = is_sound items && list_any is_main (defined_names items)
+
+abbrev pub IsChecked : List Item → Type 0
+IsChecked items = IsTrue (is_checked items)

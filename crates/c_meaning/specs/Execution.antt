@@ -1,0 +1,115 @@
+-- The meaning of C: big-step over statements. Each iteration of a labelled `for` first takes a turn.
+use Rattle.std.specs.Prelude.{ℕ, zero, suc, ◌+◌, List, [], ◌∷◌, ◌++◌, map, nat_eq, length, ℤ, pos, if◌then◌else◌, Bool, Option, Some, None, find}
+use Rattle.std.specs.Cmp.Lexicographic.{pointwise}
+use Rattle.base_io.specs.declared.end.FaultKind.TheVariants.{Tag, Entry}
+use Rattle.c_tree.specs.declared.tree.CAtom.{CAtom}
+use Rattle.c_tree.specs.declared.tree.CAtom.TheVariants as atoms
+use Rattle.c_tree.specs.declared.tree.CArg.{CArg}
+use Rattle.c_tree.specs.declared.tree.CArg.TheVariants as arg
+use Rattle.c_tree.specs.declared.tree.Callee.{Callee}
+use Rattle.c_tree.specs.declared.tree.Callee.TheVariants as callee
+use Rattle.c_tree.specs.declared.tree.CCall.{CCall}
+use Rattle.c_tree.specs.declared.tree.CExpr.{CExpr}
+use Rattle.c_tree.specs.declared.tree.CExpr.TheVariants as expr
+use Rattle.c_tree.specs.declared.tree.CVar.{CVar}
+use Rattle.c_tree.specs.Code.{Code, done, assign, call, return, loop, Fun}
+use Rattle.c_meaning.specs.Word.{Word, Fixnum, False, True, Nil, Unspec, Eof}
+use Rattle.c_meaning.specs.State.{Cell, AWord, ANumber, State, Frame, put, blank, frame_of, Answer, Has, Faults, Flow, Next, Goes, Returns, Escapes, Raises, Spends, Fails, with, after, answer, take_turn}
+use Rattle.c_meaning.specs.Operations.{Argument, ACell, AString, operate}
+
+-- the names of a function's parameters and locals: a local stands for its position in them
+abbrev pub Names : Type 0
+Names = List (List ℕ)
+
+abbrev pub is_same : List ℕ → List ℕ → Bool
+is_same a b = pointwise nat_eq a b
+
+-- the position of a name, and the length where it isn't there
+abbrev pub position_of : List ℕ → Names → ℕ
+position_of x [] = 0
+position_of x (y ∷ ys) = if is_same x y then 0 else suc (position_of x ys)
+
+abbrev pub names_of : Fun → Names
+names_of f = map (λ v. v.name) (f.params ++ f.locals)
+
+abbrev pub atom : Names → Frame → CAtom → Cell
+atom names f (atoms.Int n) = ANumber n
+atom names f (atoms.Name x) = f (position_of x names)
+atom names f atoms.False = AWord False
+atom names f atoms.True = AWord True
+atom names f atoms.Nil = AWord Nil
+atom names f atoms.Unspec = AWord Unspec
+atom names f atoms.Eof = AWord Eof
+
+abbrev pub argument : Names → Frame → CArg → Argument
+argument names f (arg.Atom a) = ACell (atom names f a)
+argument names f (arg.Str text) = AString text
+
+abbrev pub arguments : Names → Frame → List CArg → List Argument
+arguments names f args = map (argument names f) args
+
+-- the cells among the arguments; a call of a function has no string
+abbrev pub cells : List Argument → List Cell
+cells [] = []
+cells (ACell c ∷ others) = c ∷ cells others
+cells (AString t ∷ others) = cells others
+
+-- what statements do after a turn was taken, with a smaller bound
+abbrev pub Lower : Type 0
+Lower = Names → Code → Frame → State → Flow
+
+-- after an iteration of the loop
+abbrev pub again : Lower → Names → List ℕ → Code → Flow → Flow
+again lower names l body (Next f s) = lower names (loop l body done) f s
+again lower names l body (Goes l' f s) = if is_same l' l then lower names (loop l body done) f s else Goes l' f s
+again lower names l body (Returns c s) = Returns c s
+again lower names l body (Escapes x w f s) = Escapes x w f s
+again lower names l body (Raises c t s) = Raises c t s
+again lower names l body (Spends s) = Spends s
+again lower names l body (Fails k s) = Fails k s
+
+abbrev pub iterate : Lower → Names → List ℕ → Code → Frame → State → Flow
+iterate lower names l body f s = take_turn s (λ s1. again lower names l body (lower names body f s1))
+
+-- a frame: the arguments, and then the locals
+abbrev pub entry : Fun → List Cell → Frame
+entry f cs = frame_of (cs ++ map (λ v. blank v.ty) f.locals)
+
+-- the statements of a function that is called are one loop
+abbrev pub looped : Lower → Names → Code → Frame → State → Flow
+looped lower names (loop l body rest) f s = iterate lower names l body f s
+looped lower names done f s = Fails Entry s
+looped lower names (assign x e rest) f s = Fails Entry s
+looped lower names (call c rest) f s = Fails Entry s
+looped lower names (return e rest) f s = Fails Entry s
+
+abbrev pub enter : Lower → Option Fun → List Cell → State → Answer
+enter lower (Some f) cs s = answer (looped lower (names_of f) f.code (entry f cs) s)
+enter lower None cs s = Faults Entry s
+
+abbrev pub is_called : List ℕ → Fun → Bool
+is_called name f = is_same f.name name
+
+abbrev pub fun_named : List Fun → List ℕ → Option Fun
+fun_named p name = find (is_called name) p
+
+module _ (p : List Fun) (lower : Lower) where
+  abbrev pub invoke : Callee → List Argument → State → Answer
+  invoke (callee.Fun g) args s = enter lower (fun_named p g) (cells args) s
+  invoke (callee.Op op) args s = operate op args s
+
+  abbrev pub eval : Names → CExpr → Frame → State → Answer
+  eval names (expr.Atom a) f s = Has (atom names f a) s
+  eval names (expr.Call c) f s = invoke c.callee (arguments names f c.args) s
+
+  abbrev pub exec : Names → Code → Frame → State → Flow
+  exec names done f s = Next f s
+  exec names (assign x e rest) f s = with (eval names e f s) f (λ c s1. exec names rest (put (position_of x names) c f) s1)
+  exec names (call c rest) f s = with (eval names (expr.Call c) f s) f (λ _ s1. exec names rest f s1)
+  exec names (return e rest) f s = with (eval names e f s) f (λ c s1. Returns c s1)
+  exec names (loop l body rest) f s = after (iterate lower names l body f s) (λ f1 s1. exec names rest f1 s1)
+
+-- with a bound that is at least the turns left
+abbrev pub run : List Fun → ℕ → Lower
+run p zero names c f s = Spends s
+run p (suc b) names c f s = exec p (run p b) names c f s

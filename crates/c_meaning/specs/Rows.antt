@@ -1,0 +1,113 @@
+-- Worked rows: what small C programs print, how they end, and which are checked.
+use Rattle.std.specs.Prelude.{◌≡◌, ℕ, List, [], ◌∷◌, ◌++◌, codes, pos, true, false, refl}
+use Rattle.base_io.specs.declared.end.End.{End}
+use Rattle.base_io.specs.declared.end.End.TheVariants.{Ended, Raised, Spent}
+use Rattle.base_io.specs.Observation.{Observation}
+use Rattle.prim_table.specs.declared.primitives.Primitive.TheVariants.{Add, Display, Newline}
+use Rattle.scheme_data.specs.Decimal.{decimal_text}
+use Rattle.c_tree.specs.declared.op.Op.{Op}
+use Rattle.c_tree.specs.declared.op.Op.TheVariants.{BoxLong, UnboxLong, Raise, Args, Status, Primitive as Does}
+use Rattle.c_tree.specs.declared.tree.CTy.{CTy}
+use Rattle.c_tree.specs.declared.tree.CTy.TheVariants.{Obj, Long, Int}
+use Rattle.c_tree.specs.declared.tree.CAtom.{CAtom}
+use Rattle.c_tree.specs.declared.tree.CAtom.TheVariants as atom
+use Rattle.c_tree.specs.declared.tree.CArg.{CArg}
+use Rattle.c_tree.specs.declared.tree.CArg.TheVariants as arg
+use Rattle.c_tree.specs.declared.tree.Callee.TheVariants as callee
+use Rattle.c_tree.specs.declared.tree.CCall.{CCall}
+use Rattle.c_tree.specs.declared.tree.CExpr.{CExpr}
+use Rattle.c_tree.specs.declared.tree.CExpr.TheVariants as expr
+use Rattle.c_tree.specs.declared.tree.CVar.{CVar}
+use Rattle.c_tree.specs.Code.{Code, done, assign, call, return, loop, Fun, Item, defined}
+use Rattle.c_tree.specs.Operations.{op_text}
+use Rattle.c_tree.specs.Names.{local_name, label_name, function_name}
+use Rattle.c_meaning.specs.Program.{cm}
+use Rattle.c_meaning.specs.Checked.{is_sound, is_checked}
+
+abbrev pub x : ℕ → CArg
+x n = arg.Atom (atom.Name (local_name n))
+
+abbrev pub number : ℕ → CArg
+number n = arg.Atom (atom.Int (pos n))
+
+abbrev pub operation : Op → List CArg → CCall
+operation op args = record { callee = callee.Op op; args = args }
+
+abbrev pub function : List CArg → CCall
+function args = record { callee = callee.Fun (function_name (codes "hello") (codes "go")); args = args }
+
+abbrev pub var : CTy → ℕ → CVar
+var t n = record { ty = t; name = local_name n }
+
+-- `int main(void) { obj x0; obj x1; x0 = bgl_args(); x1 = f_hello__go(x0); return bgl_status(x1); }`
+abbrev pub main : Item
+main = defined (record {
+  result = Int;
+  name = codes "main";
+  params = [];
+  locals = var Obj 0 ∷ var Obj 1 ∷ [];
+  code = assign (local_name 0) (expr.Call (operation Args [])) (assign (local_name 1) (expr.Call (function (x 0 ∷ []))) (return (expr.Call (operation Status (x 1 ∷ []))) done));
+})
+
+abbrev pub go : List CVar → Code → Item
+go locals body = defined (record {
+  result = Obj;
+  name = function_name (codes "hello") (codes "go");
+  params = var Obj 0 ∷ [];
+  locals = locals;
+  code = loop (label_name 0) body done;
+})
+
+-- `x1 = bgl_p__2b(a, b); x2 = bgl_box_long(x1); bgl_p_display(x2);` and then a newline
+abbrev pub sum_shown : ℕ → ℕ → Code
+sum_shown a b =
+    assign (local_name 1) (expr.Call (operation (Does Add) (number a ∷ number b ∷ [])))
+    (assign (local_name 2) (expr.Call (operation BoxLong (x 1 ∷ [])))
+    (call (operation (Does Display) (x 2 ∷ [])) (return (expr.Call (operation (Does Newline) [])) done)))
+
+abbrev pub sum_locals : List CVar
+sum_locals = var Long 1 ∷ var Obj 2 ∷ []
+
+abbrev pub observation : List ℕ → End → Observation
+observation output end = record { output = output; end = end }
+
+sum_prints_42 : cm (go sum_locals (sum_shown 40 2) ∷ main ∷ []) [] [] 1 ≡ observation (codes "42" ++ 10 ∷ []) (Ended 0)
+unfolding cm decimal_text local_name function_name label_name
+sum_prints_42 = refl
+
+no_turn_is_left : cm (go sum_locals (sum_shown 40 2) ∷ main ∷ []) [] [] 0 ≡ observation [] Spent
+unfolding cm decimal_text local_name function_name label_name
+no_turn_is_left = refl
+
+sum_leaves_range : cm (go sum_locals (sum_shown 1152921504606846975 1) ∷ main ∷ []) [] [] 1 ≡ observation [] (Raised 3 (codes "+"))
+unfolding cm decimal_text local_name function_name label_name
+sum_leaves_range = refl
+
+-- a block that ends begins the next iteration
+loop_without_return_is_spent : cm (go [] (call (operation (Does Newline) []) done) ∷ main ∷ []) [] [] 3 ≡ observation (10 ∷ 10 ∷ 10 ∷ []) Spent
+unfolding cm decimal_text local_name function_name label_name
+loop_without_return_is_spent = refl
+
+locals_start_as_0 : cm (go sum_locals (return (expr.Call (operation (Does Display) (x 2 ∷ []))) done) ∷ main ∷ []) [] [] 1 ≡ observation (codes "0") (Ended 0)
+unfolding cm decimal_text local_name function_name label_name
+locals_start_as_0 = refl
+
+constant_is_no_long : cm (go sum_locals (assign (local_name 1) (expr.Call (operation UnboxLong (arg.Atom atom.Nil ∷ []))) done) ∷ main ∷ []) [] [] 1 ≡ observation [] (Raised 1 (codes "long"))
+unfolding cm decimal_text local_name function_name label_name
+constant_is_no_long = refl
+
+sum_is_checked : is_checked (go sum_locals (sum_shown 40 2) ∷ main ∷ []) ≡ true
+unfolding is_checked is_sound decimal_text local_name function_name label_name
+sum_is_checked = refl
+
+call_before_definition_is_not : is_checked (main ∷ go sum_locals (sum_shown 40 2) ∷ []) ≡ false
+unfolding is_checked is_sound decimal_text local_name function_name label_name
+call_before_definition_is_not = refl
+
+undeclared_local_is_not : is_checked (go [] (sum_shown 40 2) ∷ main ∷ []) ≡ false
+unfolding is_checked is_sound decimal_text local_name function_name label_name
+undeclared_local_is_not = refl
+
+wrong_type_is_not : is_checked (go (var Obj 1 ∷ var Obj 2 ∷ []) (sum_shown 40 2) ∷ main ∷ []) ≡ false
+unfolding is_checked is_sound decimal_text local_name function_name label_name
+wrong_type_is_not = refl

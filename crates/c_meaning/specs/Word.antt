@@ -1,0 +1,31 @@
+-- Words and their numbers. The low three bits of a word's number are its tag.
+use Rattle.std.specs.Prelude.{ℕ, ◌+◌, List, ℤ, codes}
+use Rattle.scheme_data.specs.Decimal.{number_text}
+use Rattle.scheme_data.specs.Fixnum.{fixnum_word}
+
+-- a fixnum (tag 0), or one of the constants (tag 3)
+pub data Word : Type 0 where
+  Fixnum : ℤ → Word
+  False : Word
+  True : Word
+  Nil : Word
+  Unspec : Word
+  Eof : Word
+
+-- the 64 bits of a word as a number
+abbrev pub number_of : Word → ℕ
+number_of (Fixnum n) = fixnum_word n
+number_of False = 3
+number_of True = 11
+number_of Nil = 19
+number_of Unspec = 27
+number_of Eof = 35
+
+-- how `display` prints a word
+abbrev pub printed : Word → List ℕ
+printed (Fixnum n) = number_text n
+printed False = codes "#f"
+printed True = codes "#t"
+printed Nil = codes "()"
+printed Unspec = codes "#unspecified"
+printed Eof = codes "#eof-object"
