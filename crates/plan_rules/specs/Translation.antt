@@ -1,0 +1,189 @@
+-- The relation between a module and a unit. Which locals are temporaries, and their names, are free.
+-- A node is related to the code and the code after it.
+use Rattle.std.specs.Prelude.{◌≡◌, ◌⊎◌, ℕ, List, [], ◌∷◌, ◌++◌, map, IsTrue, length}
+use Rattle.prim_table.specs.declared.primitives.Ty.{Ty}
+use Rattle.prim_table.specs.declared.primitives.Primitive.{Primitive as Builtin}
+use Rattle.prim_table.specs.Table.{params_of, result_of}
+use Rattle.core_tree.specs.declared.tree.Const.TheVariants.{Int}
+use Rattle.core_tree.specs.Tree.{Tree, Constant, Sequence, Primitive, Trees, none, more, FunctionTree, ModuleTree}
+use Rattle.c_tree.specs.declared.op.Op.TheVariants.{BoxLong, Primitive as Does}
+use Rattle.c_tree.specs.declared.tree.CTy.{CTy}
+use Rattle.c_tree.specs.declared.tree.CTy.TheVariants as c_ty
+use Rattle.c_tree.specs.declared.tree.CArg.{CArg}
+use Rattle.c_tree.specs.declared.tree.CExpr.{CExpr}
+use Rattle.c_tree.specs.declared.tree.CExpr.TheVariants as expr
+use Rattle.c_tree.specs.declared.tree.CVar.{CVar}
+use Rattle.c_tree.specs.Code.{Code, done, assign, call, return, loop, Fun, Item, declared, defined}
+use Rattle.c_tree.specs.Names.{function_name}
+use Rattle.c_tree.specs.Spelling.{NamedItems}
+use Rattle.c_meaning.specs.Checked.{is_typed, variable_named, variables_of, are_distinct, is_sound}
+use Rattle.plan_rules.specs.declared.rep.Rep.{Rep}
+use Rattle.plan_rules.specs.declared.rep.Rep.TheVariants.{Obj, Long}
+use Rattle.plan_rules.specs.Representation.{rep_of, c_type_of, has_of, operation, local, fixnum_expr, Step, Keep, Make, step}
+
+abbrev pub Name : Type 0
+Name = List ℕ
+
+-- Locals ------------------------------------------------------------------------------------
+
+abbrev pub In : Name → List Name → Type 0
+In x [] = ⊥
+In x (y ∷ ys) = (x ≡ y) ⊎ In x ys
+
+-- a temporary is none of the names that are still needed
+abbrev pub Fresh : Name → List Name → Type 0
+Fresh x live = In x live → ⊥
+
+-- Statements --------------------------------------------------------------------------------
+
+-- where a value goes
+pub data Place : Type 0 where
+  into : Name → Place
+  back : Place
+
+abbrev pub deliver : Place → CExpr → Code → Code
+deliver (into x) e rest = assign x e rest
+deliver back e rest = return e rest
+
+abbrev pub Statements : Type 1
+Statements = Place → Code → Code → Type 0
+
+-- The variables of the function in which the statements stand.
+module _ (vars : List CVar) where
+  -- a local of a C type
+  abbrev pub IsLocal : Name → CTy → Type 0
+  IsLocal y t = IsTrue (is_typed t (variable_named vars y))
+
+  -- a value that comes as a number, and is wanted as a word
+  pub record Boxed (given : Statements) (live : List Name) (place : Place) (code rest : Code) : Type 0 where
+    pub temporary : Name
+    pub middle : Code
+    pub fresh : Fresh temporary live
+    pub is_local : IsLocal temporary c_ty.Long
+    pub value : given (into temporary) code middle
+    pub box : middle ≡ deliver place (expr.Call (operation BoxLong (local temporary ∷ []))) rest
+
+  -- a value that comes in one representation, delivered in another
+  abbrev pub Coerced : Rep → Rep → Statements → List Name → Place → Code → Code → Type 0
+  Coerced Obj Obj given live place code rest = given place code rest
+  Coerced Long Long given live place code rest = given place code rest
+  Coerced Long Obj given live place code rest = Boxed given live place code rest
+  Coerced Obj Long given live place code rest = ⊥
+
+  -- one argument is made to fit: the name of its value, and what stays live
+  pub record Made (o : _) (live : List Name) (temporary : Name) (t : CTy) (code : Code) (made : Name) (rest : Code) : Type 0 where
+    pub fresh : Fresh made live
+    pub is_local : IsLocal made t
+    pub is : code ≡ assign made (expr.Call (operation o (local temporary ∷ []))) rest
+
+  abbrev pub Fits : Ty → Step → List Name → Name → Code → Name → Code → Type 0
+  Fits t Keep live temporary code made rest = (code ≡ rest) × (made ≡ temporary)
+  Fits t (Make o) live temporary code made rest = Made o live temporary (c_type_of (rep_of t)) code made rest
+
+  pub record FirstFits (one : Name → Code → Type 0) (others : Name → List Name → Code → Type 0) (made : List Name) : Type 0 where
+    pub first : Name
+    pub rest : List Name
+    pub middle : Code
+    pub are : made ≡ first ∷ rest
+    pub fits : one first middle
+    pub all : others first rest middle
+
+  -- tests and coercions, left to right, of arguments that were evaluated to temporaries
+  abbrev pub AllFit : List Ty → List Rep → List Name → List Name → Code → List Name → Code → Type 0
+  AllFit [] [] [] live code made rest = (code ≡ rest) × (made ≡ [])
+  AllFit (t ∷ ts) (h ∷ hs) (y ∷ ys) live code made rest =
+      FirstFits (λ first middle. Fits t (step t h) live y code first middle) (λ first others middle. AllFit ts hs ys (first ∷ live) middle others rest) made
+  AllFit _ _ _ live code made rest = ⊥
+
+  -- the arguments to temporaries, their tests, and the operation
+  pub record Applied (arguments : List Name → Code → Code → Type 0) (ts : List Ty) (hs : List Rep) (live : List Name) (finish : List CArg → Code) (code : Code) : Type 0 where
+    pub temporaries : List Name
+    pub made : List Name
+    pub middle : Code
+    pub last : Code
+    pub values : arguments temporaries code middle
+    pub fit : AllFit ts hs temporaries (temporaries ++ live) middle made last
+    pub is : last ≡ finish (map local made)
+
+  pub record Argument (value : Statements) (others : Name → List Name → Code → Type 0) (h : Rep) (live : List Name) (temporaries : List Name) (code : Code) : Type 0 where
+    pub first : Name
+    pub rest : List Name
+    pub middle : Code
+    pub are : temporaries ≡ first ∷ rest
+    pub fresh : Fresh first live
+    pub is_local : IsLocal first (c_type_of h)
+    pub given : value (into first) code middle
+    pub all : others first rest middle
+
+  pub record Then (first : Code → Type 0) (others : Code → Type 0) : Type 0 where
+    pub middle : Code
+    pub one : first middle
+    pub all : others middle
+
+  -- how each argument's value comes
+  abbrev pub haves : List Ty → Trees → List Rep
+  haves [] none = []
+  haves (t ∷ ts) (more n ns) = has_of n (rep_of t) ∷ haves ts ns
+  haves [] (more n ns) = []
+  haves (t ∷ ts) none = []
+
+  unfoldable mutual
+    -- the node's value, in a representation, goes to a place
+    pub Tr : Tree → Rep → List Name → Statements
+    Tr (Constant (Int n)) h live place code rest = code ≡ deliver place (fixnum_expr h n) rest
+    Tr (Sequence ts) h live place code rest = TrLast ts h live place code rest
+    Tr (Primitive p ns) h live place code rest =
+        (h ≡ rep_of (result_of p))
+        × Applied (λ temporaries code middle. TrArguments (params_of p) ns live temporaries code middle) (params_of p) (haves (params_of p) ns) live (λ args. deliver place (expr.Call (operation (Does p) args)) rest) code
+
+    -- nobody takes the node's value
+    pub TrUnused : Tree → List Name → Code → Code → Type 0
+    TrUnused (Constant c) live code rest = code ≡ rest
+    TrUnused (Sequence ts) live code rest = TrAllUnused ts live code rest
+    TrUnused (Primitive p ns) live code rest =
+        Applied (λ temporaries code middle. TrArguments (params_of p) ns live temporaries code middle) (params_of p) (haves (params_of p) ns) live (λ args. call (operation (Does p) args) rest) code
+
+    pub TrAllUnused : Trees → List Name → Code → Code → Type 0
+    TrAllUnused none live code rest = code ≡ rest
+    TrAllUnused (more t ts) live code rest = Then (λ middle. TrUnused t live code middle) (λ middle. TrAllUnused ts live middle rest)
+
+    -- parts in order, the last to the place
+    pub TrLast : Trees → Rep → List Name → Statements
+    TrLast none h live place code rest = ⊥
+    TrLast (more t none) h live place code rest = Coerced (has_of t h) h (λ place code rest. Tr t (has_of t h) live place code rest) live place code rest
+    TrLast (more t (more u us)) h live place code rest = Then (λ middle. TrUnused t live code middle) (λ middle. TrLast (more u us) h live place middle rest)
+
+    -- the arguments, left to right, each to a temporary of its own
+    pub TrArguments : List Ty → Trees → List Name → List Name → Code → Code → Type 0
+    TrArguments [] none live temporaries code rest = (temporaries ≡ []) × (code ≡ rest)
+    TrArguments (t ∷ ts) (more n ns) live temporaries code rest =
+        Argument (λ place code rest. Tr n (has_of n (rep_of t)) live place code rest) (λ first others middle. TrArguments ts ns (first ∷ live) others middle rest) (has_of n (rep_of t)) live temporaries code
+    TrArguments [] (more n ns) live temporaries code rest = ⊥
+    TrArguments (t ∷ ts) none live temporaries code rest = ⊥
+
+-- Functions ---------------------------------------------------------------------------------
+
+abbrev pub all_obj : List ℕ → List CTy
+all_obj [] = []
+all_obj (x ∷ xs) = c_ty.Obj ∷ all_obj xs
+
+-- a function takes and gives words, and its statements are one loop around its body
+pub record TrFunction (module_name : Name) (f : FunctionTree) (g : Fun) : Type 0 where
+  pub name : g.name ≡ function_name module_name f.name
+  pub result : g.result ≡ c_ty.Obj
+  pub params : map (λ v. v.ty) g.params ≡ map (λ _. c_ty.Obj) f.params
+  pub label : Name
+  pub body : Code
+  pub looped : g.code ≡ loop label body done
+  pub translated : Tr (variables_of g) (Sequence (more f.body none)) Obj (map (λ v. v.name) g.params) back body done
+
+abbrev pub TrFunctions : Name → List FunctionTree → List Item → Type 0
+TrFunctions m [] [] = Unit {0}
+TrFunctions m (f ∷ fs) (defined g ∷ is) = TrFunction m f g × TrFunctions m fs is
+TrFunctions m _ _ = ⊥
+
+-- the unit defines exactly the module's functions, and taken alone it has a spelling and breaks no rule of C
+pub record Translated (m : ModuleTree) (items : List Item) : Type 0 where
+  pub functions : TrFunctions m.name m.functions items
+  pub named : NamedItems items
+  pub sound : IsTrue (is_sound items)
