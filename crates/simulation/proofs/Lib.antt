@@ -1,0 +1,12 @@
+pub mod Calls
+pub mod Checked
+pub mod Ends
+pub mod Examples
+pub mod Fits
+pub mod Found
+pub mod Frames
+pub mod Main
+pub mod Names
+pub mod Nodes
+pub mod Primitives
+pub mod Worlds

@@ -1,0 +1,5 @@
+use Rattle.simulation.proofs.Main.{keeps_meaning}
+use Rattle.simulation.proofs.law.Goals as goal
+
+pub returns : goal.returns
+returns c = keeps_meaning
