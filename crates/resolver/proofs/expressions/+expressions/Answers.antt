@@ -1,0 +1,34 @@
+use Rattle.std.proofs.Common.{ap, sym, ◌∙◌, arith}
+use Rattle.std.specs.Option.{option_map}
+use Rattle.core_tree.specs.Tree.{tree}
+use Rattle.resolver.specs.Parts.{node_trees}
+use Rattle.resolver.proofs.Calls.{no_operator, no_arguments, call_tree, so_far_not, so_far_more, so_far_end}
+use Rattle.resolver.proofs.expressions.+expressions.Goals as goal
+
+pub expression-returns-in_default-primitive : goal.expression-returns-in_default-primitive
+expression-returns-in_default-primitive t c =
+    rw c.in-List.is (no_operator c.in-List.field-0 c.in-List.ds _ _ c.as_slice.ensures c.in-len1-up.len_at_least c.first-item.is
+    (sym c.primitive.ensures ∙ c.in_default-primitive.is))
+
+pub expression-returns-in_default-2 : goal.expression-returns-in_default-2
+expression-returns-in_default-2 t c =
+    rw c.in-List.is (no_arguments c.in-List.field-0 c.in-List.ds _ _ c.as_slice.ensures c.in-len1-up.len_at_least c.first-item.is
+    (sym c.in_ok-nodes-in-List.ensures ∙ ap (option_map node_trees) c.in_default-2.is))
+
+pub expression-returns-in-Some-2 : goal.expression-returns-in-Some-2
+expression-returns-in-Some-2 t c =
+    rw c.in-List.is (call_tree c.in-List.field-0 c.in-List.ds _ _ c.in-Some.p c.in-Some-2.nodes c.as_slice.ensures c.in-len1-up.len_at_least c.first-item.is
+    (sym c.primitive.ensures ∙ c.in-Some.is) (sym c.in_ok-nodes-in-List.ensures ∙ ap (option_map node_trees) c.in-Some-2.is))
+
+pub expressions-returns-in_default : goal.expressions-returns-in_default
+expressions-returns-in_default t c =
+    so_far_not c.args.ds.now c.loop-d.nodes c.loop-d.d-index _ c.loop-d-test.true c.d-item.is c.loop-d.invariant
+    (sym (ap (option_map tree) c.in_default.is) ∙ c.in_ok-node.ensures)
+
+pub expressions-loop-d-preserved : goal.expressions-loop-d-preserved
+expressions-loop-d-preserved t c =
+    so_far_more c.args.ds.now c.loop-d.nodes c.push.new.self c.loop-d.d-index _ c.in-Some.node c.loop-d-test.true c.d-item.is c.loop-d.invariant
+    (sym (ap (option_map tree) c.in-Some.is) ∙ c.in_ok-node.ensures) c.in_ok-push.ensures.ok
+
+pub expressions-returns : goal.expressions-returns
+expressions-returns t c = so_far_end c.args.ds.now c.loop-d.nodes c.loop-d.d-index (omega arith) c.loop-d.invariant
