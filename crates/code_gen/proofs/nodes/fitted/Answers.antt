@@ -1,0 +1,19 @@
+use Rattle.std.proofs.Common.{sym, ◌∙◌, subst, arith}
+use Rattle.code_gen.proofs.Counts.{below_at, below_more}
+use Rattle.code_gen.proofs.Fitting.{Fitting, fitting_none, fitting_one, fitting_all}
+use Rattle.code_gen.specs.Emission.{held_names}
+use Rattle.code_gen.proofs.nodes.fitted.Goals as goal
+
+pub loop-i-init : goal.loop-i-init
+loop-i-init c = subst (λ made. Fitting c.args.e.now c.args.e.now c.args.types.now c.args.held.now made 0) (sym c.new-made.ensures) (fitting_none c.args.e.now c.args.types.now c.args.held.now)
+
+pub fit-requires : goal.fit-requires
+fit-requires c = below_at c.loop-i.e.next c.args.held.now c.loop-i.i _ c.loop-i-test.true
+    (below_more c.args.e.now.next c.loop-i.e.next (held_names c.args.held.now) c.loop-i.invariant.emits.later c.requires.below)
+
+pub loop-i-preserved : goal.loop-i-preserved
+loop-i-preserved c = fitting_one c.args.e.now c.loop-i.e c.fit.new.e c.args.types.now c.args.held.now c.loop-i.made c.loop-i.i c.in_ok-one.one _ _
+    c.requires.as_many c.loop-i-test.true c.loop-i.invariant c.in_ok-one.ensures c.push.new.self (c.in_ok-push.ensures {u = tt}).ok
+
+pub returns : goal.returns
+returns c = fitting_all c.args.e.now c.loop-i.e c.args.types.now c.args.held.now c.loop-i.made c.loop-i.i c.requires.as_many c.loop-i-test.false c.loop-i.invariant

@@ -1,0 +1,12 @@
+//! Generates the C unit of a module: a translation of it.
+#![tactic(auto)]
+
+mod emitter;
+mod generate;
+mod nodes;
+mod parts;
+
+pub use generate::generate_unit;
+
+#[cfg(test)]
+mod tests;
