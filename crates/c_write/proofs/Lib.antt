@@ -1,0 +1,4 @@
+pub mod Adding
+pub mod Lists
+pub mod Strings
+pub mod Words

@@ -1,0 +1,201 @@
+// Declarations and definitions.
+ghost use Rattle.std.specs.Prelude.{◌∷◌, [], codes, OnOk, IsTrue};
+ghost use Rattle.c_tree.specs.declared.tree.Token.TheVariants.{Word, Mark};
+ghost use Rattle.c_tree.specs.Names.{is_function_name, is_local_name, is_label_name};
+ghost use Rattle.c_tree.specs.Code.{onto, done, loop, code_of, fun_of, item_of, items_of, declared, defined};
+ghost use Rattle.c_tree.specs.Spelling.{type_text, more_types, type_tokens, more_params, param_tokens, local_tokens, code_tokens, item_tokens, items_tokens, NamedVars, NamedCode, NamedBody, NamedItem, NamedItems};
+ghost use Rattle.c_write.specs.Adds.{Adds, anything, apart};
+
+use crate::put::{
+    close_block, open_block, put_comma, put_end, put_indent, put_mark, put_name, put_space,
+    put_word,
+};
+use crate::statement::put_statements;
+use c_tree::{CBody, CFun, CItem, CStmt, CTy, CVar};
+use scheme_data::{OutOfMemory, Text};
+
+fn put_type(out: &mut Text, ty: CTy) -> Result<(), OutOfMemory>
+    ensures { OnOk result (Adds anything apart out.old out.new (λ ts. Word (type_text ty) ∷ ts)) }
+{
+    match ty {
+        CTy::Obj => put_word(out, b"obj"),
+        CTy::Long => put_word(out, b"long"),
+        CTy::Char => put_word(out, b"char"),
+        CTy::Int => put_word(out, b"int"),
+    }
+}
+
+fn put_more_types(out: &mut Text, types: &[CTy]) -> Result<(), OutOfMemory>
+    ensures { OnOk result (Adds apart apart out.old out.new (more_types types.now)) }
+{
+    for ty in types {
+        put_comma(out)?;
+        put_type(out, *ty)?;
+    }
+    Ok(())
+}
+
+fn put_types(out: &mut Text, types: &[CTy]) -> Result<(), OutOfMemory>
+    ensures { OnOk result (Adds anything apart out.old out.new (type_tokens types.now)) }
+{
+    if types.is_empty() {
+        return put_word(out, b"void");
+    }
+    put_type(out, types[0])?;
+    put_more_types(out, &types[1..])?;
+    Ok(())
+}
+
+fn put_variable(out: &mut Text, variable: &CVar) -> Result<(), OutOfMemory>
+    requires { IsTrue (is_local_name variable.now.name) }
+    ensures { OnOk result (Adds anything apart out.old out.new
+        (λ ts. Word (type_text variable.now.ty) ∷ Word variable.now.name ∷ ts)) }
+{
+    put_type(out, variable.ty)?;
+    put_space(out)?;
+    put_name(out, &variable.name)?;
+    Ok(())
+}
+
+fn put_more_params(out: &mut Text, params: &[CVar]) -> Result<(), OutOfMemory>
+    requires { NamedVars params.now }
+    ensures { OnOk result (Adds apart apart out.old out.new (more_params params.now)) }
+{
+    for param in params {
+        put_comma(out)?;
+        put_variable(out, param)?;
+    }
+    Ok(())
+}
+
+fn put_params(out: &mut Text, params: &[CVar]) -> Result<(), OutOfMemory>
+    requires { NamedVars params.now }
+    ensures { OnOk result (Adds anything apart out.old out.new (param_tokens params.now)) }
+{
+    if params.is_empty() {
+        return put_word(out, b"void");
+    }
+    put_variable(out, &params[0])?;
+    put_more_params(out, &params[1..])?;
+    Ok(())
+}
+
+fn put_locals(out: &mut Text, locals: &[CVar]) -> Result<(), OutOfMemory>
+    requires { NamedVars locals.now }
+    ensures { OnOk result (Adds anything anything out.old out.new (local_tokens locals.now)) }
+{
+    for local in locals {
+        put_indent(out, false)?;
+        put_variable(out, local)?;
+        put_end(out)?;
+    }
+    Ok(())
+}
+
+// `for (;;) {` and a line end.
+fn put_for(out: &mut Text) -> Result<(), OutOfMemory>
+    ensures { OnOk result (Adds anything anything out.old out.new
+        (λ ts. Word (codes "for") ∷ Mark 40 ∷ Mark 59 ∷ Mark 59 ∷ Mark 41 ∷ Mark 123 ∷ ts)) }
+{
+    put_word(out, b"for")?;
+    put_space(out)?;
+    put_mark(out, b'(')?;
+    put_mark(out, b';')?;
+    put_mark(out, b';')?;
+    put_mark(out, b')')?;
+    open_block(out)?;
+    Ok(())
+}
+
+fn put_label(out: &mut Text, label: &Text) -> Result<(), OutOfMemory>
+    requires { IsTrue (is_label_name label.now) }
+    ensures { OnOk result (Adds anything anything out.old out.new (λ ts. Word label.now ∷ Mark 58 ∷ ts)) }
+{
+    put_name(out, label)?;
+    put_mark(out, b':')?;
+    put_space(out)?;
+    Ok(())
+}
+
+fn put_loop(out: &mut Text, label: &Text, statements: &[CStmt]) -> Result<(), OutOfMemory>
+    requires { IsTrue (is_label_name label.now) × NamedCode (onto statements.now done) }
+    ensures { OnOk result (Adds anything anything out.old out.new
+        (code_tokens (loop label.now (onto statements.now done) done))) }
+{
+    put_indent(out, false)?;
+    put_label(out, label)?;
+    put_for(out)?;
+    put_statements(out, true, statements)?;
+    put_indent(out, false)?;
+    close_block(out)?;
+    Ok(())
+}
+
+fn put_body(out: &mut Text, body: &CBody) -> Result<(), OutOfMemory>
+    requires { NamedBody (code_of body.now) }
+    ensures { OnOk result (Adds anything anything out.old out.new (code_tokens (code_of body.now))) }
+{
+    match body {
+        CBody::Straight(statements) => put_statements(out, false, statements.as_slice()),
+        CBody::Looped(label, statements) => put_loop(out, label, statements.as_slice()),
+    }
+}
+
+// A type, a name and a parenthesis.
+fn put_head(out: &mut Text, ty: CTy, name: &Text) -> Result<(), OutOfMemory>
+    requires { IsTrue (is_function_name name.now) }
+    ensures { OnOk result (Adds anything anything out.old out.new
+        (λ ts. Word (type_text ty) ∷ Word name.now ∷ Mark 40 ∷ ts)) }
+{
+    put_type(out, ty)?;
+    put_space(out)?;
+    put_name(out, name)?;
+    put_mark(out, b'(')?;
+    Ok(())
+}
+
+fn put_declaration(out: &mut Text, ty: CTy, name: &Text, params: &[CTy]) -> Result<(), OutOfMemory>
+    requires { IsTrue (is_function_name name.now) }
+    ensures { OnOk result (Adds anything anything out.old out.new (item_tokens (declared ty name.now params.now))) }
+{
+    put_head(out, ty, name)?;
+    put_types(out, params)?;
+    put_mark(out, b')')?;
+    put_end(out)?;
+    Ok(())
+}
+
+fn put_definition(out: &mut Text, function: &CFun) -> Result<(), OutOfMemory>
+    requires { NamedItem (defined (fun_of function.now)) }
+    ensures { OnOk result (Adds anything anything out.old out.new (item_tokens (defined (fun_of function.now)))) }
+{
+    put_head(out, function.result, &function.name)?;
+    put_params(out, function.params.as_slice())?;
+    put_mark(out, b')')?;
+    open_block(out)?;
+    put_locals(out, function.locals.as_slice())?;
+    put_body(out, &function.body)?;
+    close_block(out)?;
+    Ok(())
+}
+
+fn put_item(out: &mut Text, item: &CItem) -> Result<(), OutOfMemory>
+    requires { NamedItem (item_of item.now) }
+    ensures { OnOk result (Adds anything anything out.old out.new (item_tokens (item_of item.now))) }
+{
+    match item {
+        CItem::Declared(ty, name, params) => put_declaration(out, *ty, name, params.as_slice()),
+        CItem::Defined(function) => put_definition(out, function),
+    }
+}
+
+/// The items one after another, each with line ends.
+pub fn put_items(out: &mut Text, items: &[CItem]) -> Result<(), OutOfMemory>
+    requires { NamedItems (items_of items.now) }
+    ensures { OnOk result (Adds anything anything out.old out.new (items_tokens (items_of items.now))) }
+{
+    for item in items {
+        put_item(out, item)?;
+    }
+    Ok(())
+}

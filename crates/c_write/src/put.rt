@@ -1,0 +1,98 @@
+// The smallest parts of a C text.
+ghost use Rattle.std.specs.Prelude.{◌≡◌, ◌++◌, ◌∷◌, [], codes, OnOk, IsTrue};
+ghost use Rattle.c_tree.specs.declared.tree.Token.TheVariants.{Word, Mark};
+ghost use Rattle.c_tree.specs.Lexical.{is_mark};
+ghost use Rattle.c_write.specs.Adds.{Adds, anything, apart, is_word};
+
+use scheme_data::{OutOfMemory, Text};
+
+pub fn put_mark(out: &mut Text, mark: u8) -> Result<(), OutOfMemory>
+    requires { IsTrue (is_mark mark) }
+    ensures { OnOk result (Adds apart anything out.old out.new (λ ts. Mark mark ∷ ts)) }
+{
+    out.push(mark)?;
+    Ok(())
+}
+
+pub fn put_space(out: &mut Text) -> Result<(), OutOfMemory>
+    ensures { OnOk result (Adds apart anything out.old out.new (λ ts. ts)) }
+{
+    out.push(b' ')?;
+    Ok(())
+}
+
+pub fn put_line_end(out: &mut Text) -> Result<(), OutOfMemory>
+    ensures { OnOk result (Adds apart anything out.old out.new (λ ts. ts)) }
+{
+    out.push(b'\n')?;
+    Ok(())
+}
+
+pub fn put_word(out: &mut Text, word: &[u8]) -> Result<(), OutOfMemory>
+    requires { IsTrue (is_word word.now) }
+    ensures { OnOk result (Adds anything apart out.old out.new (λ ts. Word word.now ∷ ts)) }
+{
+    out.extend(word)?;
+    Ok(())
+}
+
+pub fn put_name(out: &mut Text, name: &Text) -> Result<(), OutOfMemory>
+    requires { IsTrue (is_word name.now) }
+    ensures { OnOk result (Adds anything apart out.old out.new (λ ts. Word name.now ∷ ts)) }
+{
+    put_word(out, name.as_bytes())?;
+    Ok(())
+}
+
+fn put_four_spaces(out: &mut Text) -> Result<(), OutOfMemory>
+    ensures { OnOk result (Adds apart anything out.old out.new (λ ts. ts)) }
+{
+    out.extend(b"    ")?;
+    Ok(())
+}
+
+/// Four spaces, or eight in a loop.
+pub fn put_indent(out: &mut Text, deep: bool) -> Result<(), OutOfMemory>
+    ensures { OnOk result (Adds apart anything out.old out.new (λ ts. ts)) }
+{
+    put_four_spaces(out)?;
+    if !deep {
+        return Ok(());
+    }
+    put_four_spaces(out)?;
+    Ok(())
+}
+
+pub fn put_comma(out: &mut Text) -> Result<(), OutOfMemory>
+    ensures { OnOk result (Adds apart anything out.old out.new (λ ts. Mark 44 ∷ ts)) }
+{
+    put_mark(out, b',')?;
+    put_space(out)?;
+    Ok(())
+}
+
+/// The end of a statement or a declaration, and of its line.
+pub fn put_end(out: &mut Text) -> Result<(), OutOfMemory>
+    ensures { OnOk result (Adds apart anything out.old out.new (λ ts. Mark 59 ∷ ts)) }
+{
+    put_mark(out, b';')?;
+    put_line_end(out)?;
+    Ok(())
+}
+
+pub fn open_block(out: &mut Text) -> Result<(), OutOfMemory>
+    ensures { OnOk result (Adds apart anything out.old out.new (λ ts. Mark 123 ∷ ts)) }
+{
+    put_space(out)?;
+    put_mark(out, b'{')?;
+    put_line_end(out)?;
+    Ok(())
+}
+
+pub fn close_block(out: &mut Text) -> Result<(), OutOfMemory>
+    ensures { OnOk result (Adds apart anything out.old out.new (λ ts. Mark 125 ∷ ts)) }
+{
+    put_mark(out, b'}')?;
+    put_line_end(out)?;
+    Ok(())
+}
