@@ -1,0 +1,100 @@
+-- What is spelled in front of some tokens makes them no fewer, and spells no wrong token.
+use Rattle.std.proofs.Common.{◌≡◌, ℕ, ◌≤◌, List, [], ◌∷◌, length, refl, ◌∙◌, arith}
+use Rattle.c_tree.specs.declared.tree.CTy.{CTy}
+use Rattle.c_tree.specs.declared.tree.CArg.{CArg}
+use Rattle.c_tree.specs.declared.tree.CArg.TheVariants as arg
+use Rattle.c_tree.specs.declared.tree.CCall.{CCall}
+use Rattle.c_tree.specs.declared.tree.CExpr.{CExpr}
+use Rattle.c_tree.specs.declared.tree.CExpr.TheVariants as expr
+use Rattle.c_tree.specs.declared.tree.CVar.{CVar}
+use Rattle.c_tree.specs.declared.tree.Token.{Token}
+use Rattle.c_tree.specs.declared.tree.Token.TheVariants.{Word, Mark}
+use Rattle.c_tree.specs.Code.{Code, done, assign, call, return, loop, Item, declared, defined}
+use Rattle.c_tree.specs.Spelling.{argument_token, more_arguments, argument_tokens, call_tokens, expr_tokens, code_tokens, more_types, type_tokens, more_params, param_tokens, local_tokens, item_tokens, items_tokens}
+use Rattle.c_read.specs.Scans.{has_bad}
+
+pub record Extends (rest ts : List Token) : Type 0 where
+  pub longer : length rest ≤ length ts
+  pub clean : has_bad ts ≡ has_bad rest
+
+same : (ts : List Token) → Extends ts ts
+same ts = record { longer = omega arith; clean = refl }
+
+word : {rest : List Token} (w : List ℕ) (ts : List Token) → Extends rest ts → Extends rest (Word w ∷ ts)
+word w ts h = record { longer = omega (arith, h.longer); clean = h.clean }
+
+mark : {rest : List Token} (m : ℕ) (ts : List Token) → Extends rest ts → Extends rest (Mark m ∷ ts)
+mark m ts h = record { longer = omega (arith, h.longer); clean = h.clean }
+
+argument : {rest : List Token} (a : CArg) (ts : List Token) → Extends rest ts → Extends rest (argument_token a ∷ ts)
+argument (arg.Atom a) ts h = record { longer = omega (arith, h.longer); clean = h.clean }
+argument (arg.Str text) ts h = record { longer = omega (arith, h.longer); clean = h.clean }
+
+trans : {a b c : List Token} → Extends a b → Extends b c → Extends a c
+trans h k = record { longer = omega (arith, h.longer, k.longer); clean = k.clean ∙ h.clean }
+
+pub more_arguments_extends : (args : List CArg) (rest : List Token) → Extends rest (more_arguments args rest)
+more_arguments_extends [] rest = same rest
+more_arguments_extends (a ∷ args) rest = mark 44 (argument_token a ∷ more_arguments args rest) (argument a (more_arguments args rest) (more_arguments_extends args rest))
+
+pub arguments_extends : (args : List CArg) (rest : List Token) → Extends rest (argument_tokens args rest)
+arguments_extends [] rest = same rest
+arguments_extends (a ∷ args) rest = argument a (more_arguments args rest) (more_arguments_extends args rest)
+
+pub call_extends : (c : CCall) (rest : List Token) → Extends rest (call_tokens c rest)
+call_extends c rest =
+    word _ (Mark 40 ∷ argument_tokens c.args (Mark 41 ∷ rest)) (mark 40 (argument_tokens c.args (Mark 41 ∷ rest))
+    (trans (mark 41 rest (same rest)) (arguments_extends c.args (Mark 41 ∷ rest))))
+
+pub expr_extends : (e : CExpr) (rest : List Token) → Extends rest (expr_tokens e rest)
+expr_extends (expr.Atom a) rest = word _ rest (same rest)
+expr_extends (expr.Call c) rest = call_extends c rest
+
+ended_extends : (e : CExpr) (rest : List Token) → Extends rest (expr_tokens e (Mark 59 ∷ rest))
+ended_extends e rest = trans (mark 59 rest (same rest)) (expr_extends e (Mark 59 ∷ rest))
+
+pub code_extends : (c : Code) (rest : List Token) → Extends rest (code_tokens c rest)
+code_extends done rest = same rest
+code_extends (assign x e next) rest =
+    word x (Mark 61 ∷ expr_tokens e (Mark 59 ∷ code_tokens next rest)) (mark 61 (expr_tokens e (Mark 59 ∷ code_tokens next rest))
+    (trans (code_extends next rest) (ended_extends e (code_tokens next rest))))
+code_extends (call c next) rest =
+    trans (mark 59 (code_tokens next rest) (code_extends next rest)) (call_extends c (Mark 59 ∷ code_tokens next rest))
+code_extends (return e next) rest =
+    word _ (expr_tokens e (Mark 59 ∷ code_tokens next rest)) (trans (code_extends next rest) (ended_extends e (code_tokens next rest)))
+code_extends (loop l body next) rest =
+    let inner = trans (mark 125 (code_tokens next rest) (code_extends next rest)) (code_extends body (Mark 125 ∷ code_tokens next rest)) in
+    word l _ (mark 58 _ (word _ _ (mark 40 _ (mark 59 _ (mark 59 _ (mark 41 _ (mark 123 _ inner)))))))
+
+pub more_types_extends : (ts : List CTy) (rest : List Token) → Extends rest (more_types ts rest)
+more_types_extends [] rest = same rest
+more_types_extends (t ∷ ts) rest = mark 44 _ (word _ (more_types ts rest) (more_types_extends ts rest))
+
+pub types_extends : (ts : List CTy) (rest : List Token) → Extends rest (type_tokens ts rest)
+types_extends [] rest = word _ rest (same rest)
+types_extends (t ∷ ts) rest = word _ (more_types ts rest) (more_types_extends ts rest)
+
+pub more_params_extends : (vs : List CVar) (rest : List Token) → Extends rest (more_params vs rest)
+more_params_extends [] rest = same rest
+more_params_extends (v ∷ vs) rest = mark 44 _ (word _ _ (word _ (more_params vs rest) (more_params_extends vs rest)))
+
+pub params_extends : (vs : List CVar) (rest : List Token) → Extends rest (param_tokens vs rest)
+params_extends [] rest = word _ rest (same rest)
+params_extends (v ∷ vs) rest = word _ _ (word _ (more_params vs rest) (more_params_extends vs rest))
+
+pub locals_extends : (vs : List CVar) (rest : List Token) → Extends rest (local_tokens vs rest)
+locals_extends [] rest = same rest
+locals_extends (v ∷ vs) rest = word _ _ (word _ _ (mark 59 (local_tokens vs rest) (locals_extends vs rest)))
+
+pub item_extends : (i : Item) (rest : List Token) → Extends rest (item_tokens i rest)
+item_extends (declared t name params) rest =
+    word _ _ (word name _ (mark 40 _ (trans (mark 41 _ (mark 59 rest (same rest))) (types_extends params (Mark 41 ∷ Mark 59 ∷ rest)))))
+item_extends (defined f) rest =
+    let body = trans (mark 125 rest (same rest)) (code_extends f.code (Mark 125 ∷ rest)) in
+    let inner = trans body (locals_extends f.locals (code_tokens f.code (Mark 125 ∷ rest))) in
+    let after = local_tokens f.locals (code_tokens f.code (Mark 125 ∷ rest)) in
+    word _ _ (word f.name _ (mark 40 _ (trans (mark 41 (Mark 123 ∷ after) (mark 123 after inner)) (params_extends f.params (Mark 41 ∷ Mark 123 ∷ after)))))
+
+pub items_extends : (is : List Item) (rest : List Token) → Extends rest (items_tokens is rest)
+items_extends [] rest = same rest
+items_extends (i ∷ is) rest = trans (items_extends is rest) (item_extends i (items_tokens is rest))

@@ -1,0 +1,9 @@
+pub mod Classes
+pub mod Extends
+pub mod Forward
+pub mod Lexing
+pub mod Loops
+pub mod Many
+pub mod Numbers
+pub mod Operations
+pub mod Reading

@@ -1,0 +1,32 @@
+-- What reading a C text answers.
+use Rattle.std.specs.Prelude.{◌≡◌, ℕ, List, Result, Ok, Err}
+use Rattle.c_tree.specs.Code.{Item, items_of}
+use Rattle.c_tree.specs.Spelling.{CText}
+use Rattle.c_tree.specs.declared.tree.CProgram.{CProgram}
+use Rattle.c_tree.specs.declared.tree.CUnit.{CUnit}
+use Rattle.c_read.specs.declared.read.CReadErr.{CReadErr}
+use Rattle.c_read.specs.declared.read.CReadErr.TheVariants.{NotC, Memory}
+
+abbrev pub HasNoTree : List ℕ → Type 0
+HasNoTree bytes = (items : List Item) → CText bytes items → ⊥
+
+abbrev pub ReadsProgram : List ℕ → Result CProgram CReadErr → Type 0
+ReadsProgram bytes (Ok p) = CText bytes (items_of p.items)
+ReadsProgram bytes (Err NotC) = HasNoTree bytes
+ReadsProgram bytes (Err Memory) = Unit {0}
+
+abbrev pub ReadsUnit : List ℕ → Result CUnit CReadErr → Type 0
+ReadsUnit bytes (Ok u) = CText bytes (items_of u.items)
+ReadsUnit bytes (Err NotC) = HasNoTree bytes
+ReadsUnit bytes (Err Memory) = Unit {0}
+
+-- unless memory runs out
+abbrev pub GivesProgram : List Item → Result CProgram CReadErr → Type 0
+GivesProgram items (Ok p) = items_of p.items ≡ items
+GivesProgram items (Err NotC) = ⊥
+GivesProgram items (Err Memory) = Unit {0}
+
+abbrev pub GivesUnit : List Item → Result CUnit CReadErr → Type 0
+GivesUnit items (Ok u) = items_of u.items ≡ items
+GivesUnit items (Err NotC) = ⊥
+GivesUnit items (Err Memory) = Unit {0}

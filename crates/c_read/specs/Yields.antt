@@ -1,0 +1,71 @@
+-- What was read from the front of some tokens, with its names, as the grammar spells it.
+use Rattle.std.specs.Prelude.{◌≡◌, ℕ, List, [], ◌∷◌, codes, IsTrue}
+use Rattle.c_tree.specs.declared.tree.CTy.{CTy}
+use Rattle.c_tree.specs.declared.tree.CArg.{CArg}
+use Rattle.c_tree.specs.declared.tree.CCall.{CCall}
+use Rattle.c_tree.specs.declared.tree.CExpr.{CExpr}
+use Rattle.c_tree.specs.declared.tree.CStmt.{CStmt}
+use Rattle.c_tree.specs.declared.tree.CBody.{CBody}
+use Rattle.c_tree.specs.declared.tree.CVar.{CVar}
+use Rattle.c_tree.specs.declared.tree.CItem.{CItem}
+use Rattle.c_tree.specs.declared.tree.Token.{Token}
+use Rattle.c_tree.specs.declared.tree.Token.TheVariants.{Word, Mark}
+use Rattle.c_tree.specs.Names.{is_function_name, is_local_name}
+use Rattle.c_tree.specs.Code.{Code, done, onto, code_of, item_of, items_of}
+use Rattle.c_tree.specs.Spelling.{type_text, argument_token, argument_tokens, call_tokens, expr_tokens, code_tokens, param_tokens, local_tokens, item_tokens, items_tokens, NamedArgument, NamedArguments, NamedCall, NamedExpr, NamedCode, NamedBody, NamedVars, NamedItem, NamedItems}
+
+abbrev pub YieldsArgument : List Token → CArg → List Token → Type 0
+YieldsArgument old a left = (old ≡ argument_token a ∷ left) × NamedArgument a
+
+abbrev pub YieldsNext : List Token → CArg → List Token → Type 0
+YieldsNext old a left = (old ≡ Mark 44 ∷ argument_token a ∷ left) × NamedArgument a
+
+abbrev pub YieldsArguments : List Token → List CArg → List Token → Type 0
+YieldsArguments old args left = (old ≡ argument_tokens args left) × NamedArguments args
+
+abbrev pub YieldsCall : List Token → CCall → List Token → Type 0
+YieldsCall old c left = (old ≡ call_tokens c (Mark 59 ∷ left)) × NamedCall c
+
+abbrev pub YieldsExpr : List Token → CExpr → List Token → Type 0
+YieldsExpr old e left = (old ≡ expr_tokens e (Mark 59 ∷ left)) × NamedExpr e
+
+abbrev pub code_from : List CStmt → Code
+code_from ss = onto ss done
+
+abbrev pub YieldsStmts : List Token → List CStmt → List Token → Type 0
+YieldsStmts old ss left = (old ≡ code_tokens (code_from ss) left) × NamedCode (code_from ss)
+
+abbrev pub YieldsStmt : List Token → CStmt → List Token → Type 0
+YieldsStmt old s left = YieldsStmts old (s ∷ []) left
+
+abbrev pub YieldsBody : List Token → CBody → List Token → Type 0
+YieldsBody old b left = (old ≡ code_tokens (code_of b) (Mark 125 ∷ left)) × NamedBody (code_of b)
+
+abbrev pub head_tokens : List Token → List Token
+head_tokens left = Mark 58 ∷ Word (codes "for") ∷ Mark 40 ∷ Mark 59 ∷ Mark 59 ∷ Mark 41 ∷ Mark 123 ∷ left
+
+abbrev pub YieldsVar : List Token → CVar → List Token → Type 0
+YieldsVar old v left = (old ≡ Word (type_text v.ty) ∷ Word v.name ∷ left) × IsTrue (is_local_name v.name)
+
+abbrev pub YieldsParams : List Token → List CVar → List Token → Type 0
+YieldsParams old vs left = (old ≡ param_tokens vs left) × NamedVars vs
+
+abbrev pub YieldsLocals : List Token → List CVar → List Token → Type 0
+YieldsLocals old vs left = (old ≡ local_tokens vs left) × NamedVars vs
+
+-- an item that begins with a type, a name and a parenthesis
+abbrev pub YieldsRest : CTy → List ℕ → List Token → CItem → List Token → Type 0
+YieldsRest t name old i left =
+    (Word (type_text t) ∷ Word name ∷ Mark 40 ∷ old ≡ item_tokens (item_of i) left) × (IsTrue (is_function_name name) → NamedItem (item_of i))
+
+-- a definition from its locals on
+abbrev pub YieldsDefinition : CTy → List ℕ → List CVar → List Token → CItem → List Token → Type 0
+YieldsDefinition t name params old i left =
+    (Word (type_text t) ∷ Word name ∷ Mark 40 ∷ param_tokens params (Mark 41 ∷ Mark 123 ∷ old) ≡ item_tokens (item_of i) left)
+    × (IsTrue (is_function_name name) → NamedVars params → NamedItem (item_of i))
+
+abbrev pub YieldsItem : List Token → CItem → List Token → Type 0
+YieldsItem old i left = (old ≡ item_tokens (item_of i) left) × NamedItem (item_of i)
+
+abbrev pub YieldsItems : List Token → List CItem → List Token → Type 0
+YieldsItems old is left = (old ≡ items_tokens (items_of is) left) × NamedItems (items_of is)

@@ -1,0 +1,251 @@
+// Declarations and definitions.
+ghost use Rattle.std.specs.Prelude.{◌≡◌, ◌∷◌, [], IfOk, IsTrue, codes};
+ghost use Rattle.c_tree.specs.declared.tree.Token.TheVariants.{Word, Mark};
+ghost use Rattle.c_tree.specs.Names.{is_local_name};
+ghost use Rattle.c_tree.specs.Spelling.{type_text, type_tokens, param_tokens, NamedVars};
+ghost use Rattle.c_read.specs.Yields.{YieldsVar, YieldsLocals, YieldsDefinition, YieldsRest, YieldsItem, YieldsItems};
+ghost use Rattle.c_read.specs.Sequences.{Took, onto, all, after_mark};
+ghost use Rattle.c_read.specs.Productions.{
+  next_type,
+  variable,
+  next_variable,
+  local,
+  locals,
+  definition,
+  without_params,
+  with_types,
+  with_names,
+  with_params,
+  item_rest,
+  item,
+  parsed,
+};
+
+use crate::bodies::read_body;
+use crate::queue::Queue;
+use crate::read::CReadErr;
+use crate::skips::{
+    function_name, is_type_next, is_void_next, is_word_next, local_name, skip, took, type_word,
+    word,
+};
+use c_tree::{CFun, CItem, CTy, CVar, Token};
+use scheme_data::{List, Text};
+use std::alloc::Global;
+
+#[tactic(auto, unfolding(crate::specs::Productions::next_type))]
+fn read_next_type(tokens: &mut Queue<Token>) -> Result<CTy, CReadErr>
+    ensures read { Took (next_type tokens.old) result tokens.new }
+    ensures spelled { IfOk result (λ t. tokens.old ≡ Mark 44 ∷ Word (type_text t) ∷ tokens.new) }
+{
+    skip(tokens, b',')?;
+    type_word(tokens)
+}
+
+fn read_types(alloc: Global, tokens: &mut Queue<Token>, first: CTy) -> Result<List<CTy>, CReadErr>
+    ensures read { Took (onto (first ∷ []) (all next_type (after_mark 41) tokens.old)) result tokens.new }
+    ensures spelled { IfOk result (λ ts. Word (type_text first) ∷ tokens.old ≡ type_tokens ts (Mark 41 ∷ tokens.new)) }
+{
+    let mut types = List::new(alloc);
+    types.push(first)?;
+    while !took(tokens, b')') {
+        let ty = read_next_type(tokens)?;
+        types.push(ty)?;
+    }
+    Ok(types)
+}
+
+#[tactic(auto, unfolding(crate::specs::Productions::variable))]
+fn read_variable(tokens: &mut Queue<Token>) -> Result<CVar, CReadErr>
+    ensures read { Took (variable tokens.old) result tokens.new }
+    ensures spelled { IfOk result (λ x. YieldsVar tokens.old x tokens.new) }
+{
+    let ty = type_word(tokens)?;
+    let name = local_name(tokens)?;
+    Ok(CVar { ty, name })
+}
+
+#[tactic(auto, unfolding(crate::specs::Productions::next_variable))]
+fn read_next_variable(tokens: &mut Queue<Token>) -> Result<CVar, CReadErr>
+    ensures read { Took (next_variable tokens.old) result tokens.new }
+    ensures spelled { IfOk result (λ v. (tokens.old ≡ Mark 44 ∷ Word (type_text v.ty) ∷ Word v.name ∷ tokens.new) × IsTrue (is_local_name v.name)) }
+{
+    skip(tokens, b',')?;
+    read_variable(tokens)
+}
+
+fn read_params(
+    alloc: Global,
+    tokens: &mut Queue<Token>,
+    first: CVar,
+) -> Result<List<CVar>, CReadErr>
+    ensures read { Took (onto (first ∷ []) (all next_variable (after_mark 41) tokens.old)) result tokens.new }
+    ensures spelled { IfOk result (λ vs. (Word (type_text first.ty) ∷ Word first.name ∷ tokens.old ≡ param_tokens vs (Mark 41 ∷ tokens.new)) × (IsTrue (is_local_name first.name) → NamedVars vs)) }
+{
+    let mut params = List::new(alloc);
+    params.push(first)?;
+    while !took(tokens, b')') {
+        let param = read_next_variable(tokens)?;
+        params.push(param)?;
+    }
+    Ok(params)
+}
+
+#[tactic(auto, unfolding(crate::specs::Productions::local))]
+fn read_local(tokens: &mut Queue<Token>) -> Result<CVar, CReadErr>
+    ensures read { Took (local tokens.old) result tokens.new }
+    ensures spelled { IfOk result (λ x. YieldsVar tokens.old x (Mark 59 ∷ tokens.new)) }
+{
+    let var = read_variable(tokens)?;
+    skip(tokens, b';')?;
+    Ok(var)
+}
+
+fn read_locals(alloc: Global, tokens: &mut Queue<Token>) -> Result<List<CVar>, CReadErr>
+    ensures read { Took (locals tokens.old) result tokens.new }
+    ensures spelled { IfOk result (λ x. YieldsLocals tokens.old x tokens.new) }
+{
+    let mut locals = List::new(alloc);
+    while is_type_next(tokens) {
+        let local = read_local(tokens)?;
+        locals.push(local)?;
+    }
+    Ok(locals)
+}
+
+#[tactic(auto, unfolding(crate::specs::Productions::definition))]
+fn read_definition(
+    alloc: Global,
+    tokens: &mut Queue<Token>,
+    result_type: CTy,
+    name: Text,
+    params: List<CVar>,
+) -> Result<CItem, CReadErr>
+    ensures read { Took (definition result_type name params tokens.old) result tokens.new }
+    ensures spelled { IfOk result (λ i. YieldsDefinition result_type name params tokens.old i tokens.new) }
+{
+    let locals = read_locals(alloc, tokens)?;
+    let body = read_body(alloc, tokens)?;
+    Ok(CItem::Defined(CFun {
+        result: result_type,
+        name,
+        params,
+        locals,
+        body,
+    }))
+}
+
+#[tactic(auto, unfolding(crate::specs::Productions::without_params))]
+fn read_without_params(
+    alloc: Global,
+    tokens: &mut Queue<Token>,
+    result_type: CTy,
+    name: Text,
+) -> Result<CItem, CReadErr>
+    ensures read { Took (without_params result_type name tokens.old) result tokens.new }
+    ensures spelled { IfOk result (λ i. YieldsRest result_type name (Word (codes "void") ∷ Mark 41 ∷ tokens.old) i tokens.new) }
+{
+    if took(tokens, b';') {
+        return Ok(CItem::Declared(result_type, name, List::new(alloc)));
+    }
+    skip(tokens, b'{')?;
+    read_definition(alloc, tokens, result_type, name, List::new(alloc))
+}
+
+#[tactic(auto, unfolding(crate::specs::Productions::with_types))]
+fn read_with_types(
+    alloc: Global,
+    tokens: &mut Queue<Token>,
+    result_type: CTy,
+    name: Text,
+    first: CTy,
+) -> Result<CItem, CReadErr>
+    ensures read { Took (with_types result_type name first tokens.old) result tokens.new }
+    ensures spelled { IfOk result (λ i. YieldsRest result_type name (Word (type_text first) ∷ tokens.old) i tokens.new) }
+{
+    let types = read_types(alloc, tokens, first)?;
+    skip(tokens, b';')?;
+    Ok(CItem::Declared(result_type, name, types))
+}
+
+#[tactic(auto, unfolding(crate::specs::Productions::with_names))]
+fn read_with_names(
+    alloc: Global,
+    tokens: &mut Queue<Token>,
+    result_type: CTy,
+    name: Text,
+    first: CTy,
+) -> Result<CItem, CReadErr>
+    ensures read { Took (with_names result_type name first tokens.old) result tokens.new }
+    ensures spelled { IfOk result (λ i. YieldsRest result_type name (Word (type_text first) ∷ tokens.old) i tokens.new) }
+{
+    let first_name = local_name(tokens)?;
+    let params = read_params(
+        alloc,
+        tokens,
+        CVar {
+            ty: first,
+            name: first_name,
+        },
+    )?;
+    skip(tokens, b'{')?;
+    read_definition(alloc, tokens, result_type, name, params)
+}
+
+#[tactic(auto, unfolding(crate::specs::Productions::with_params))]
+fn read_with_params(
+    alloc: Global,
+    tokens: &mut Queue<Token>,
+    result_type: CTy,
+    name: Text,
+) -> Result<CItem, CReadErr>
+    ensures read { Took (with_params result_type name tokens.old) result tokens.new }
+    ensures spelled { IfOk result (λ i. YieldsRest result_type name tokens.old i tokens.new) }
+{
+    let first = type_word(tokens)?;
+    if is_word_next(tokens) {
+        return read_with_names(alloc, tokens, result_type, name, first);
+    }
+    read_with_types(alloc, tokens, result_type, name, first)
+}
+
+#[tactic(auto, unfolding(crate::specs::Productions::item_rest))]
+fn read_item_rest(
+    alloc: Global,
+    tokens: &mut Queue<Token>,
+    result_type: CTy,
+    name: Text,
+) -> Result<CItem, CReadErr>
+    ensures read { Took (item_rest result_type name tokens.old) result tokens.new }
+    ensures spelled { IfOk result (λ i. YieldsRest result_type name tokens.old i tokens.new) }
+{
+    if is_void_next(tokens) {
+        let _ = word(tokens)?;
+        skip(tokens, b')')?;
+        return read_without_params(alloc, tokens, result_type, name);
+    }
+    read_with_params(alloc, tokens, result_type, name)
+}
+
+#[tactic(auto, unfolding(crate::specs::Productions::item))]
+fn read_item(alloc: Global, tokens: &mut Queue<Token>) -> Result<CItem, CReadErr>
+    ensures read { Took (item tokens.old) result tokens.new }
+    ensures spelled { IfOk result (λ x. YieldsItem tokens.old x tokens.new) }
+{
+    let result_type = type_word(tokens)?;
+    let name = function_name(tokens)?;
+    skip(tokens, b'(')?;
+    read_item_rest(alloc, tokens, result_type, name)
+}
+
+/// All items.
+pub fn read_items(alloc: Global, tokens: &mut Queue<Token>) -> Result<List<CItem>, CReadErr>
+    ensures read { Took (parsed tokens.old) result tokens.new }
+    ensures spelled { IfOk result (λ x. YieldsItems tokens.old x []) }
+{
+    let mut items = List::new(alloc);
+    while !tokens.is_empty() {
+        let item = read_item(alloc, tokens)?;
+        items.push(item)?;
+    }
+    Ok(items)
+}

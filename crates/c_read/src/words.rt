@@ -1,0 +1,110 @@
+ghost use Rattle.std.specs.Prelude.{◌≡◌, IsTrue, codes};
+ghost use Rattle.std.specs.Option.{IfSome};
+ghost use Rattle.scheme_data.specs.Decimal.{number_text};
+ghost use Rattle.scheme_data.specs.Fixnum.{IsFixnum};
+ghost use Rattle.c_tree.specs.Operations.{op_text, op_named};
+ghost use Rattle.c_tree.specs.Spelling.{type_text, atom_text, callee_text, NamedAtom, NamedCallee};
+ghost use Rattle.c_read.specs.Words.{is_text, type_of, number_of, constant_of, atom_of, callee_of, is_return};
+
+use c_tree::{CAtom, CTy, Callee, Op, names_function, names_local, op_by_name};
+use scheme_data::{Text, number_of_text};
+
+pub fn has_text(word: &[u8], text: &[u8]) -> bool
+    ensures value { result ≡ is_text word.now text.now }
+    ensures same { IsTrue result → word.now ≡ text.now }
+{
+    word == text
+}
+
+#[tactic(auto, unfolding(crate::specs::Words::type_of))]
+pub fn type_by_name(word: &[u8]) -> Option<CTy>
+    ensures value { result ≡ type_of word.now }
+    ensures spelled { IfSome result (λ t. word.now ≡ type_text t) }
+{
+    if has_text(word, b"obj") {
+        return Some(CTy::Obj);
+    }
+    if has_text(word, b"long") {
+        return Some(CTy::Long);
+    }
+    if has_text(word, b"char") {
+        return Some(CTy::Char);
+    }
+    if has_text(word, b"int") {
+        return Some(CTy::Int);
+    }
+    None
+}
+
+fn number(word: &[u8]) -> Option<i64>
+    ensures value { result ≡ number_of word.now }
+    ensures spelled { IfSome result (λ n. (word.now ≡ number_text n) × IsFixnum n) }
+{
+    number_of_text(word)
+}
+
+#[tactic(auto, unfolding(crate::specs::Words::constant_of))]
+fn constant(word: &[u8]) -> Option<CAtom>
+    ensures value { result ≡ constant_of word.now }
+    ensures spelled { IfSome result (λ a. (word.now ≡ atom_text a) × NamedAtom a) }
+{
+    if has_text(word, b"BGL_FALSE") {
+        return Some(CAtom::False);
+    }
+    if has_text(word, b"BGL_TRUE") {
+        return Some(CAtom::True);
+    }
+    if has_text(word, b"BGL_NIL") {
+        return Some(CAtom::Nil);
+    }
+    if has_text(word, b"BGL_UNSPEC") {
+        return Some(CAtom::Unspec);
+    }
+    if has_text(word, b"BGL_EOF") {
+        return Some(CAtom::Eof);
+    }
+    None
+}
+
+/// The atom of a word.
+#[tactic(auto, unfolding(crate::specs::Words::atom_of))]
+pub fn atom(word: Text) -> Option<CAtom>
+    ensures value { result ≡ atom_of word }
+    ensures spelled { IfSome result (λ a. (word ≡ atom_text a) × NamedAtom a) }
+{
+    if names_local(word.as_bytes()) {
+        return Some(CAtom::Name(word));
+    }
+    if let Some(constant) = constant(word.as_bytes()) {
+        return Some(constant);
+    }
+    let n = number(word.as_bytes())?;
+    Some(CAtom::Int(n))
+}
+
+fn operation(word: &[u8]) -> Option<Op>
+    ensures value { result ≡ op_named word.now }
+    ensures spelled { IfSome result (λ op. word.now ≡ op_text op) }
+{
+    op_by_name(word)
+}
+
+/// What a word calls.
+#[tactic(auto, unfolding(crate::specs::Words::callee_of))]
+pub fn callee(word: Text) -> Option<Callee>
+    ensures value { result ≡ callee_of word }
+    ensures spelled { IfSome result (λ c. (word ≡ callee_text c) × NamedCallee c) }
+{
+    if names_function(word.as_bytes()) {
+        return Some(Callee::Fun(word));
+    }
+    let op = operation(word.as_bytes())?;
+    Some(Callee::Op(op))
+}
+
+pub fn is_return_word(word: &[u8]) -> bool
+    ensures value { result ≡ is_return word.now }
+    ensures spelled { IsTrue result → word.now ≡ codes "return" }
+{
+    has_text(word, b"return")
+}
