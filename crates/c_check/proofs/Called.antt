@@ -1,0 +1,102 @@
+-- The functions that may be called, and what fits where they are looked up.
+use Rattle.std.proofs.Common.{◌≡◌, ℕ, Bool, true, false, not, ◌&&◌, cond, List, [], ◌∷◌, ◌++◌, map, Option, Some, None, refl, sym, ap, ◌∙◌, if◌then◌else◌}
+use Rattle.c_tree.specs.declared.tree.CTy.{CTy}
+use Rattle.c_tree.specs.declared.tree.CTy.TheVariants.{Int}
+use Rattle.c_tree.specs.declared.tree.CArg.{CArg}
+use Rattle.c_tree.specs.declared.tree.Callee.{Callee}
+use Rattle.c_tree.specs.declared.tree.Callee.TheVariants as callee
+use Rattle.c_tree.specs.declared.tree.CExpr.{CExpr}
+use Rattle.c_tree.specs.declared.tree.CExpr.TheVariants as expr
+use Rattle.c_tree.specs.declared.tree.CVar.{CVar}
+use Rattle.c_tree.specs.Code.{Code, done, assign, call, return, loop, Fun, Item, declared, defined}
+use Rattle.c_tree.specs.Names.{is_main}
+use Rattle.c_meaning.specs.Execution.{is_same}
+use Rattle.c_meaning.specs.Checked.{Signature, signature_named, variable_named, callable, call_fits_signature, call_type, is_the_type, has_type, expr_fits, assigned_fits, code_fits, returns_last, same_type, same_types, are_distinct, variables_of, is_looped, is_main_function, function_fits, item_fits}
+use Rattle.name_table.specs.Names.{has_name}
+use Rattle.c_check.proofs.SameTypes.{no_variables}
+use Rattle.c_check.proofs.Tables.{is_same-true}
+
+abbrev pub is_allowed : List (List ℕ) → List ℕ → Bool
+is_allowed names name = not (is_main name) && has_name names name
+
+if_none : (b : Bool) → None ≡ (if b then (let none : Option Signature = None in none) else None)
+if_none true = refl
+if_none false = refl
+
+pub callable-named : (names : List (List ℕ)) (name : List ℕ) (sigs : List Signature) → signature_named (callable names sigs) name ≡ (if is_allowed names name then signature_named sigs name else None)
+callable-named names name [] = if_none (is_allowed names name)
+callable-named names name (s ∷ ss) = by (is_allowed names s.name) (is_same s.name name) refl refl (callable-named names name ss)
+  where
+    by : (b m : Bool) → is_allowed names s.name ≡ b → is_same s.name name ≡ m → signature_named (callable names ss) name ≡ (if is_allowed names name then signature_named ss name else None)
+        → signature_named (cond b (s ∷ callable names ss) (callable names ss)) name ≡ (if is_allowed names name then cond m (Some s) (signature_named ss name) else None)
+    by true true allowed same rest =
+        ap (λ m. cond m (Some s) (signature_named (callable names ss) name)) same
+        ∙ sym (ap (λ b. if b then Some s else None) (ap (is_allowed names) (sym (is_same-true s.name name same)) ∙ allowed))
+    by true false allowed same rest = ap (λ m. cond m (Some s) (signature_named (callable names ss) name)) same ∙ rest
+    by false true allowed same rest =
+        let forbidden : is_allowed names name ≡ false = ap (is_allowed names) (sym (is_same-true s.name name same)) ∙ allowed in
+        rest ∙ ap (λ b. if b then signature_named ss name else None) forbidden ∙ sym (ap (λ b. if b then Some s else None) forbidden)
+    by false false allowed same rest = rest
+
+pub callable-main : (names : List (List ℕ)) (name : List ℕ) (sigs : List Signature) → is_main name ≡ true → None ≡ signature_named (callable names sigs) name
+callable-main names name sigs main = sym (callable-named names name sigs ∙ ap (λ b. if not b && has_name names name then signature_named sigs name else None) main)
+
+and-false : (b : Bool) → (b && false) ≡ false
+and-false true = refl
+and-false false = refl
+
+pub callable-undefined : (names : List (List ℕ)) (name : List ℕ) (sigs : List Signature) → has_name names name ≡ false → None ≡ signature_named (callable names sigs) name
+callable-undefined names name sigs absent =
+    sym (callable-named names name sigs ∙ ap (λ b. if b then signature_named sigs name else None) (ap (λ b. not (is_main name) && b) absent ∙ and-false (not (is_main name))))
+
+pub callable-known : (names : List (List ℕ)) (name : List ℕ) (sigs : List Signature) → is_main name ≡ false → has_name names name ≡ true → signature_named sigs name ≡ signature_named (callable names sigs) name
+callable-known names name sigs main there =
+    sym (callable-named names name sigs ∙ ap (λ b. if not b && has_name names name then signature_named sigs name else None) main ∙ ap (λ b. if b then signature_named sigs name else None) there)
+
+-- What fits depends on what names find ----------------------------------------------------------
+
+module _ (a b : List Signature) (alike : (name : List ℕ) → signature_named a name ≡ signature_named b name) where
+  call_type-alike : (vars : List CVar) (c : Callee) (args : List CArg) → call_type a vars c args ≡ call_type b vars c args
+  call_type-alike vars (callee.Fun name) args = ap (λ o. call_fits_signature vars o args) (alike name)
+  call_type-alike vars (callee.Op op) args = refl
+
+  expr_fits-alike : (vars : List CVar) (e : CExpr) (t : CTy) → expr_fits a vars e t ≡ expr_fits b vars e t
+  expr_fits-alike vars (expr.Atom x) t = refl
+  expr_fits-alike vars (expr.Call c) t = ap (is_the_type t) (call_type-alike vars c.callee c.args)
+
+  assigned_fits-alike : (vars : List CVar) (e : CExpr) (o : Option CVar) → assigned_fits a vars e o ≡ assigned_fits b vars e o
+  assigned_fits-alike vars e None = refl
+  assigned_fits-alike vars e (Some v) = expr_fits-alike vars e v.ty
+
+  pub code_fits-alike : (vars : List CVar) (t : CTy) (c : Code) → code_fits a vars t c ≡ code_fits b vars t c
+  code_fits-alike vars t done = refl
+  code_fits-alike vars t (assign x e rest) = λ i. assigned_fits-alike vars e (variable_named vars x) i && code_fits-alike vars t rest i
+  code_fits-alike vars t (call c rest) = λ i. has_type (call_type-alike vars c.callee c.args i) && code_fits-alike vars t rest i
+  code_fits-alike vars t (return e rest) = λ i. expr_fits-alike vars e t i && code_fits-alike vars t rest i
+  code_fits-alike vars t (loop l body rest) = refl
+
+  function_fits-alike : (f : Fun) → function_fits a f ≡ function_fits b f
+  function_fits-alike f = ap (λ c. are_distinct (map (λ v. v.name) (variables_of f)) && (if is_main f.name then ((same_type f.result Int && same_types (map (λ v. v.ty) f.params) []) && (c && returns_last f.code)) else is_looped (variables_of f) f.result f.code)) (code_fits-alike f.locals Int f.code)
+
+module _ (a b : List Signature) (alike : (name : List ℕ) → signature_named a name ≡ signature_named b name) where
+  callable-alike : (names : List (List ℕ)) (name : List ℕ) → signature_named (callable names a) name ≡ signature_named (callable names b) name
+  callable-alike names name = callable-named names name a ∙ ap (λ o. if is_allowed names name then o else None) (alike name) ∙ sym (callable-named names name b)
+
+  pub item_fits-alike : (names : List (List ℕ)) (i : Item) → item_fits names a i ≡ item_fits names b i
+  item_fits-alike names (declared t name params) = refl
+  item_fits-alike names (defined f) = function_fits-alike (callable names a) (callable names b) (callable-alike names) f
+
+-- The shape of `main` ---------------------------------------------------------------------------
+
+module _ (sigs : List Signature) (f : Fun) where
+  pub main_gives_other : same_type f.result Int ≡ false → false ≡ is_main_function sigs f
+  main_gives_other h = ap (λ b. (b && same_types (map (λ v. v.ty) f.params) []) && (code_fits sigs f.locals Int f.code && returns_last f.code)) (sym h)
+
+  pub main_takes_some : same_types (map (λ v. v.ty) f.params) [] ≡ false → false ≡ is_main_function sigs f
+  main_takes_some h =
+      sym (ap (λ b. b && (code_fits sigs f.locals Int f.code && returns_last f.code)) (ap (λ b. same_type f.result Int && b) h ∙ and-false (same_type f.result Int)))
+
+  pub main_fits : (vars : List CVar) → vars ≡ variables_of f → same_type f.result Int ≡ true → same_types (map (λ v. v.ty) f.params) [] ≡ true → (code_fits sigs vars Int f.code && returns_last f.code) ≡ is_main_function sigs f
+  main_fits vars is gives takes =
+      ap (λ l. code_fits sigs l Int f.code && returns_last f.code) (is ∙ ap (λ p. p ++ f.locals) (no_variables f.params takes))
+      ∙ sym (λ i. (gives i && takes i) && (code_fits sigs f.locals Int f.code && returns_last f.code))

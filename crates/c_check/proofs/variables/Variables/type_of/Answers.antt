@@ -1,0 +1,10 @@
+use Rattle.std.proofs.Common.{◌∙◌, ap}
+use Rattle.c_check.specs.Variables.{type_named}
+use Rattle.c_check.proofs.Entries.{type-lookup}
+use Rattle.c_check.proofs.variables.Variables.type_of.Goals as goal
+
+pub returns : goal.returns
+returns c =
+    c.copied.ensures ∙ c.get.ensures.value
+    ∙ type-lookup c.args.name.now c.self.inside.types.entries
+    ∙ ap (λ l. type_named l c.args.name.now) c.self.view_is

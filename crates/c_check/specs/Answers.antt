@@ -1,0 +1,13 @@
+-- What a check answers.
+use Rattle.std.specs.Prelude.{◌≡◌, Result, Ok, Err}
+use Rattle.c_tree.specs.Code.{items_of}
+use Rattle.c_tree.specs.declared.tree.CProgram.{CProgram}
+use Rattle.c_meaning.specs.Checked.{IsChecked}
+use Rattle.c_check.specs.declared.checking.CheckErr.{CheckErr}
+use Rattle.c_check.specs.declared.checking.CheckErr.TheVariants.{NotChecked, Memory}
+
+-- the program itself, exactly where it breaks no rule, unless memory runs out
+abbrev pub ChecksTo : CProgram → Result CProgram CheckErr → Type 0
+ChecksTo p (Ok c) = (c ≡ p) × IsChecked (items_of p.items)
+ChecksTo p (Err NotChecked) = IsChecked (items_of p.items) → ⊥
+ChecksTo p (Err Memory) = Unit {0}

@@ -1,0 +1,30 @@
+-- What a function's statements may name, and whether one statement fits.
+use Rattle.std.specs.Prelude.{List, Bool, true, false, Option, Some, None, if◌then◌else◌}
+use Rattle.c_tree.specs.declared.op.Op.{Op}
+use Rattle.c_tree.specs.declared.tree.CTy.{CTy}
+use Rattle.c_tree.specs.declared.tree.CArg.{CArg}
+use Rattle.c_tree.specs.declared.tree.CStmt.{CStmt}
+use Rattle.c_tree.specs.declared.tree.CStmt.TheVariants as stmt
+use Rattle.c_tree.specs.declared.tree.CVar.{CVar}
+use Rattle.c_meaning.specs.Checked.{Signature, callable, variable_named, arguments_fit, wants_of, gives_of, assigned_fits, has_type, call_type, expr_fits}
+use Rattle.c_check.specs.declared.scope.Scope.{Scope}
+
+abbrev pub functions_of : Scope → List Signature
+functions_of s = callable s.defined.now s.declared.now
+
+abbrev pub variables_of : Scope → List CVar
+variables_of s = s.variables
+
+-- the type of an operation's result, where its arguments fit
+abbrev pub operation_type : List CVar → Op → List CArg → Option CTy
+operation_type vars op args = if arguments_fit vars (wants_of op) args then Some (gives_of op) else None
+
+abbrev pub statement_fits : List Signature → List CVar → CTy → CStmt → Bool
+statement_fits sigs vars returned (stmt.Assign x e) = assigned_fits sigs vars e (variable_named vars x)
+statement_fits sigs vars returned (stmt.Call c) = has_type (call_type sigs vars c.callee c.args)
+statement_fits sigs vars returned (stmt.Return e) = expr_fits sigs vars e returned
+
+abbrev pub is_return : CStmt → Bool
+is_return (stmt.Assign x e) = false
+is_return (stmt.Call c) = false
+is_return (stmt.Return e) = true

@@ -1,0 +1,71 @@
+ghost use Rattle.std.specs.Prelude.{◌≡◌};
+ghost use Rattle.c_tree.specs.Code.{items_of};
+ghost use Rattle.c_meaning.specs.Checked.{IsChecked};
+ghost use Rattle.c_check.specs.Answers.{ChecksTo};
+
+use crate::program::is_checked;
+use c_tree::CProgram;
+use scheme_data::OutOfMemory;
+use std::alloc::Global;
+use std::marker::Model;
+
+/// Why a program isn't accepted.
+#[derive(Clone, Copy, Debug, PartialEq, Eq)]
+pub enum CheckErr {
+    /// It breaks a rule.
+    NotChecked,
+    /// Memory was wanted and not given.
+    Memory,
+}
+
+impl From<OutOfMemory> for CheckErr {
+    ghost use Rattle.c_check.specs.declared.checking.CheckErr.TheVariants.{Memory};
+
+    ghost from_gives = { λ _ e. e ≡ Memory };
+
+    fn from(_: OutOfMemory) -> Self {
+        CheckErr::Memory
+    }
+}
+
+/// A checked program.
+#[derive(Drop)]
+pub struct Checked {
+    program: CProgram,
+}
+
+impl Model for Checked {
+    ghost use Rattle.c_tree.specs.Code.{items_of};
+    ghost use Rattle.c_tree.specs.declared.tree.CProgram.{CProgram};
+    ghost use Rattle.c_tree.specs.contracts.tree.CProgram as the_program;
+    ghost use Rattle.c_meaning.specs.Checked.{IsChecked};
+
+    ghost Value = { CProgram };
+
+    ghost coded = { the_program.the_row.coded };
+
+    ghost view = { λ c. c.program };
+
+    ghost invariant = { λ c. IsChecked (items_of c.program.items) };
+}
+
+/// Keeps the program, exactly where it breaks no rule; a refused one is dropped.
+pub fn check(alloc: Global, p: CProgram) -> Result<Checked, CheckErr>
+    ensures { ChecksTo p result }
+{
+    if is_checked(alloc, p.items.as_slice())? {
+        Ok(Checked { program: p })
+    } else {
+        Err(CheckErr::NotChecked)
+    }
+}
+
+impl Checked {
+    /// The program that it keeps.
+    pub fn program(&self) -> &CProgram
+        ensures same { result.now ≡ self.now }
+        ensures checked { IsChecked (items_of self.now.items) }
+    {
+        &self.program
+    }
+}

@@ -1,0 +1,130 @@
+ghost use Rattle.std.specs.Prelude.{◌≡◌, [], map, ◌&&◌, if◌then◌else◌, IfOk};
+ghost use Rattle.c_tree.specs.Names.{is_main};
+ghost use Rattle.c_tree.specs.Code.{onto, done, code_of, fun_of, item_of};
+ghost use Rattle.c_meaning.specs.Checked.{same_types, callable, code_fits, returns_last, is_looped, is_main_function, function_fits, item_fits, variables_of as all_variables};
+ghost use Rattle.c_check.specs.Scopes.{functions_of, variables_of, is_return};
+
+use crate::declared::Declared;
+use crate::scope::Scope;
+use crate::types::{is_main, same_type};
+use crate::variables::Variables;
+use c_tree::{CBody, CFun, CItem, CStmt, CTy, CVar};
+use name_table::NameTable;
+use scheme_data::OutOfMemory;
+use std::alloc::Global;
+
+fn is_return(statement: &CStmt) -> bool
+    ensures { result ≡ is_return statement.now }
+{
+    match statement {
+        CStmt::Assign(_, _) => false,
+        CStmt::Call(_) => false,
+        CStmt::Return(_) => true,
+    }
+}
+
+fn returns_last(statements: &[CStmt]) -> bool
+    ensures { result ≡ returns_last (onto statements.now done) }
+{
+    match statements.last() {
+        None => false,
+        Some(statement) => is_return(statement),
+    }
+}
+
+fn is_looped(scope: &Scope, f: &CFun) -> bool
+    requires { functions_of scope.now ≡ [] }
+    ensures { result ≡ is_looped (variables_of scope.now) f.now.result (fun_of f.now).code }
+{
+    match &f.body {
+        CBody::Straight(_) => false,
+        CBody::Looped(_, statements) => scope.statements_fit(statements.as_slice(), f.result),
+    }
+}
+
+fn is_main_code(scope: &Scope, body: &CBody) -> bool
+    ensures { result ≡ (code_fits (functions_of scope.now) (variables_of scope.now) CTy.Int (code_of body.now) && returns_last (code_of body.now)) }
+{
+    match body {
+        CBody::Straight(statements) => {
+            scope.statements_fit(statements.as_slice(), CTy::Int)
+                && returns_last(statements.as_slice())
+        }
+        CBody::Looped(_, _) => false,
+    }
+}
+
+fn are_none(params: &[CVar]) -> bool
+    ensures { result ≡ same_types (map (λ v. v.ty) params.now) [] }
+{
+    params.is_empty()
+}
+
+fn is_main_function(scope: &Scope, f: &CFun) -> bool
+    requires { variables_of scope.now ≡ all_variables (fun_of f.now) }
+    ensures { result ≡ is_main_function (functions_of scope.now) (fun_of f.now) }
+{
+    if !same_type(f.result, CTy::Int) {
+        return false;
+    }
+    if !are_none(f.params.as_slice()) {
+        return false;
+    }
+    is_main_code(scope, &f.body)
+}
+
+fn function_fits(
+    alloc: Global,
+    defined: &NameTable,
+    declared: &Declared,
+    f: &CFun,
+) -> Result<bool, OutOfMemory>
+    ensures { IfOk result (λ fits. fits ≡ function_fits (callable defined.now declared.now) (fun_of f.now)) }
+{
+    match Variables::of(alloc, f)? {
+        None => Ok(false),
+        Some(variables) => Ok(body_fits(alloc, defined, declared, variables, f)),
+    }
+}
+
+fn body_fits(
+    alloc: Global,
+    defined: &NameTable,
+    declared: &Declared,
+    variables: Variables,
+    f: &CFun,
+) -> bool
+    requires { variables ≡ all_variables (fun_of f.now) }
+    ensures { result ≡ (if is_main f.now.name then is_main_function (callable defined.now declared.now) (fun_of f.now) else is_looped (all_variables (fun_of f.now)) f.now.result (fun_of f.now).code) }
+{
+    if is_main(f.name.as_bytes()) {
+        let scope = Scope {
+            defined,
+            declared,
+            variables,
+        };
+        return is_main_function(&scope, f);
+    }
+    let none = Declared::new(alloc);
+    let scope = Scope {
+        defined,
+        declared: &none,
+        variables,
+    };
+    is_looped(&scope, f)
+}
+
+/// Whether an item fits, where these names are defined in the program and these signatures stand before it.
+pub fn item_fits(
+    alloc: Global,
+    defined: &NameTable,
+    declared: &Declared,
+    item: &CItem,
+) -> Result<bool, OutOfMemory>
+    ensures { IfOk result (λ fits. fits ≡ item_fits defined.now declared.now (item_of item.now)) }
+{
+    match item {
+        CItem::Declared(_, _, _) => Ok(true),
+        CItem::Defined(f) => function_fits(alloc, defined, declared, f),
+    }
+}
