@@ -1,0 +1,245 @@
+-- A run only adds to its output.
+use Rattle.std.proofs.Common.{◌≡◌, ℕ, zero, suc, ◌+◌, ◌≤◌, Bool, true, false, List, [], ◌∷◌, ◌++◌, Option, Some, None, refl, sym, ap, ◌∙◌, subst, append_assoc, if◌then◌else◌, ⊎_elim}
+use Rattle.std.specs.Prelude.{ℤ, pos, negsuc, codes, ◌+ℤ◌}
+use Rattle.std.proofs.lemmas.List.{append-nil}
+use Rattle.scheme_data.specs.Fixnum.{is_fixnum}
+use Rattle.base_io.specs.Observation.{Observation}
+use Rattle.prim_table.specs.declared.primitives.Primitive.TheVariants.{Add, Display, Newline}
+use Rattle.c_tree.specs.declared.tree.CTy.{CTy}
+use Rattle.c_tree.specs.declared.op.Op.{Op}
+use Rattle.c_tree.specs.declared.op.Op.TheVariants.{BoxLong, UnboxLong, Raise, Args, Status, Primitive as Prim_op}
+use Rattle.c_tree.specs.declared.tree.CBody.{CBody}
+use Rattle.c_tree.specs.declared.tree.CBody.TheVariants.{Straight, Looped}
+use Rattle.c_tree.specs.declared.tree.CStmt.{CStmt}
+use Rattle.c_tree.specs.declared.tree.CFun.{CFun}
+use Rattle.c_tree.specs.declared.tree.Callee.{Callee}
+use Rattle.c_tree.specs.declared.tree.Callee.TheVariants as callee
+use Rattle.c_tree.specs.declared.tree.CCall.{CCall}
+use Rattle.c_tree.specs.declared.tree.CExpr.{CExpr}
+use Rattle.c_tree.specs.declared.tree.CExpr.TheVariants as expr
+use Rattle.c_tree.specs.Code.{Code, done, assign, call, return, loop, Fun, onto}
+use Rattle.c_meaning.specs.Word.{Word, Fixnum, False, True, Nil, Unspec, Eof, printed}
+use Rattle.c_meaning.specs.State.{Cell, AWord, ANumber, State, Frame, put, Answer, Has, Leaves, Stops, Ends, Faults, Flow, Next, Goes, Returns, Escapes, Raises, Spends, Fails, with, after, answer, take_from, take_turn}
+use Rattle.c_meaning.specs.Operations.{Argument, ACell, AString, operate, fixnum_in}
+use Rattle.c_meaning.specs.Execution.{Names, Lower, is_same, position_of, arguments, cells, again, iterate, looped, entry, names_of, enter, invoke, eval, exec, run, fun_named}
+use Rattle.c_meaning.specs.Program.{shown}
+use Rattle.c_machine.specs.declared.stepping.Frame.{Frame as Waiter}
+use Rattle.c_machine.specs.declared.program.Dest.{Dest}
+use Rattle.c_machine.specs.declared.program.Dest.TheVariants as dest
+use Rattle.c_machine.specs.Steps.{Config}
+use Rattle.c_machine.proofs.Means.{meant, wrap, flow_of, delivers, names_in, Callers, Waits, Running, Giving, Means}
+
+-- the first bytes of these
+abbrev pub Begins : List ℕ → List ℕ → Type 0
+Begins part whole = (more : List ℕ) × (whole ≡ part ++ more)
+
+pub begins_self : (o : List ℕ) → Begins o o
+begins_self o = ([], sym (append-nil o))
+
+pub begins_after : (o q r : List ℕ) → Begins o q → Begins q r → Begins o r
+begins_after o q r h k = (h.0 ++ k.0, k.1 ∙ ap (λ (l : List ℕ). l ++ k.0) h.1 ∙ append_assoc o h.0 k.0)
+
+abbrev pub out : Flow → List ℕ
+out (Next f s) = s.output
+out (Goes l f s) = s.output
+out (Returns c s) = s.output
+out (Escapes x w f s) = s.output
+out (Raises c t s) = s.output
+out (Spends s) = s.output
+out (Fails k s) = s.output
+
+abbrev out_of : Answer → List ℕ
+out_of (Has c s) = s.output
+out_of (Leaves x w s) = s.output
+out_of (Stops c t s) = s.output
+out_of (Ends s) = s.output
+out_of (Faults k s) = s.output
+
+with_grows : (o : List ℕ) (a : Answer) (f : Frame) (next : Cell → State → Flow) → Begins o (out_of a) → ((c : Cell) (s : State) → Begins s.output (out (next c s))) → Begins o (out (with a f next))
+with_grows o (Has c s) f next h k = begins_after o s.output _ h (k c s)
+with_grows o (Leaves x w s) f next h k = h
+with_grows o (Stops c t s) f next h k = h
+with_grows o (Ends s) f next h k = h
+with_grows o (Faults x s) f next h k = h
+
+after_grows : (o : List ℕ) (x : Flow) (next : Frame → State → Flow) → Begins o (out x) → ((f : Frame) (s : State) → Begins s.output (out (next f s))) → Begins o (out (after x next))
+after_grows o (Next f s) next h k = begins_after o s.output _ h (k f s)
+after_grows o (Goes l f s) next h k = h
+after_grows o (Returns c s) next h k = h
+after_grows o (Escapes x w f s) next h k = h
+after_grows o (Raises c t s) next h k = h
+after_grows o (Spends s) next h k = h
+after_grows o (Fails x s) next h k = h
+
+answer_grows : (x : Flow) → out_of (answer x) ≡ out x
+answer_grows (Next f s) = refl
+answer_grows (Goes l f s) = refl
+answer_grows (Returns c s) = refl
+answer_grows (Escapes x w f s) = refl
+answer_grows (Raises c t s) = refl
+answer_grows (Spends s) = refl
+answer_grows (Fails k s) = refl
+
+either_grows : (o : List ℕ) (b : Bool) (x y : Flow) → Begins o (out x) → Begins o (out y) → Begins o (out (if b then x else y))
+either_grows o true x y h k = h
+either_grows o false x y h k = k
+
+abbrev LowerGrows : Lower → Type 0
+LowerGrows lower = (names : Names) (c : Code) (f : Frame) (s : State) → Begins s.output (out (lower names c f s))
+
+again_grows : (lower : Lower) → LowerGrows lower → (o : List ℕ) (names : Names) (l : List ℕ) (body : Code) (x : Flow) → Begins o (out x) → Begins o (out (again lower names l body x))
+again_grows lower g o names l body (Next f s) h = begins_after o s.output _ h (g names (loop l body done) f s)
+again_grows lower g o names l body (Goes m f s) h = either_grows o (is_same m l) (lower names (loop l body done) f s) (Goes m f s) (begins_after o s.output _ h (g names (loop l body done) f s)) h
+again_grows lower g o names l body (Returns c s) h = h
+again_grows lower g o names l body (Escapes x w f s) h = h
+again_grows lower g o names l body (Raises c t s) h = h
+again_grows lower g o names l body (Spends s) h = h
+again_grows lower g o names l body (Fails k s) h = h
+
+turn_grows : (n : ℕ) (s : State) (next : State → Flow) → ((s1 : State) → Begins s1.output (out (next s1))) → Begins s.output (out (take_from n s next))
+turn_grows zero s next h = begins_self s.output
+turn_grows (suc n) s next h = h (record s { turns = n })
+
+iterate_grows : (lower : Lower) → LowerGrows lower → (names : Names) (l : List ℕ) (body : Code) (f : Frame) (s : State) → Begins s.output (out (iterate lower names l body f s))
+iterate_grows lower g names l body f s =
+    turn_grows s.turns s (λ s1. again lower names l body (lower names body f s1)) (λ s1. again_grows lower g s1.output names l body (lower names body f s1) (g names body f s1))
+
+looped_grows : (lower : Lower) → LowerGrows lower → (names : Names) (c : Code) (f : Frame) (s : State) → Begins s.output (out (looped lower names c f s))
+looped_grows lower g names done f s = begins_self s.output
+looped_grows lower g names (assign x e rest) f s = begins_self s.output
+looped_grows lower g names (call c rest) f s = begins_self s.output
+looped_grows lower g names (return e rest) f s = begins_self s.output
+looped_grows lower g names (loop l body rest) f s = iterate_grows lower g names l body f s
+
+enter_grows : (lower : Lower) → LowerGrows lower → (o : Option Fun) (cs : List Cell) (s : State) → Begins s.output (out_of (enter lower o cs s))
+enter_grows lower g None cs s = begins_self s.output
+enter_grows lower g (Some f) cs s =
+    subst (λ (q : List ℕ). Begins s.output q) (sym (answer_grows (looped lower (names_of f) f.code (entry f cs) s))) (looped_grows lower g (names_of f) f.code (entry f cs) s)
+
+box_grows : (args : List Argument) (s : State) → Begins s.output (out_of (operate BoxLong args s))
+box_grows (ACell (ANumber n) ∷ []) s = begins_self s.output
+box_grows _ s = begins_self s.output
+
+fixnum_grows : (w : Word) (s : State) → Begins s.output (out_of (fixnum_in w s))
+fixnum_grows (Fixnum n) s = begins_self s.output
+fixnum_grows False s = begins_self s.output
+fixnum_grows True s = begins_self s.output
+fixnum_grows Nil s = begins_self s.output
+fixnum_grows Unspec s = begins_self s.output
+fixnum_grows Eof s = begins_self s.output
+
+unbox_grows : (args : List Argument) (s : State) → Begins s.output (out_of (operate UnboxLong args s))
+unbox_grows (ACell (AWord w) ∷ []) s = fixnum_grows w s
+unbox_grows _ s = begins_self s.output
+
+raise_grows : (args : List Argument) (s : State) → Begins s.output (out_of (operate Raise args s))
+raise_grows (ACell (ANumber (pos code)) ∷ AString text ∷ []) s = begins_self s.output
+raise_grows _ s = begins_self s.output
+
+args_grows : (args : List Argument) (s : State) → Begins s.output (out_of (operate Args args s))
+args_grows [] s = begins_self s.output
+args_grows _ s = begins_self s.output
+
+status_grows : (args : List Argument) (s : State) → Begins s.output (out_of (operate Status args s))
+status_grows (ACell (AWord w) ∷ []) s = begins_self s.output
+status_grows _ s = begins_self s.output
+
+sum_grows : (b : Bool) (n : ℤ) (s : State) → Begins s.output (out_of (if b then Has (ANumber n) s else Stops 3 (codes "+") s))
+sum_grows true n s = begins_self s.output
+sum_grows false n s = begins_self s.output
+
+add_grows : (args : List Argument) (s : State) → Begins s.output (out_of (operate (Prim_op Add) args s))
+add_grows (ACell (ANumber a) ∷ ACell (ANumber b) ∷ []) s = sum_grows (is_fixnum (a +ℤ b)) (a +ℤ b) s
+add_grows _ s = begins_self s.output
+
+display_grows : (args : List Argument) (s : State) → Begins s.output (out_of (operate (Prim_op Display) args s))
+display_grows (ACell (AWord w) ∷ []) s = (printed w, refl)
+display_grows _ s = begins_self s.output
+
+newline_grows : (args : List Argument) (s : State) → Begins s.output (out_of (operate (Prim_op Newline) args s))
+newline_grows [] s = (10 ∷ [], refl)
+newline_grows _ s = begins_self s.output
+
+operate_grows : (op : Op) (args : List Argument) (s : State) → Begins s.output (out_of (operate op args s))
+operate_grows BoxLong args s = box_grows args s
+operate_grows UnboxLong args s = unbox_grows args s
+operate_grows Raise args s = raise_grows args s
+operate_grows Args args s = args_grows args s
+operate_grows Status args s = status_grows args s
+operate_grows (Prim_op Add) args s = add_grows args s
+operate_grows (Prim_op Display) args s = display_grows args s
+operate_grows (Prim_op Newline) args s = newline_grows args s
+
+module _ (p : List Fun) (lower : Lower) (g : LowerGrows lower) where
+  invoke_grows : (c : Callee) (args : List Argument) (s : State) → Begins s.output (out_of (invoke p lower c args s))
+  invoke_grows (callee.Fun h) args s = enter_grows lower g (fun_named p h) (cells args) s
+  invoke_grows (callee.Op op) args s = operate_grows op args s
+
+  eval_grows : (names : Names) (e : CExpr) (f : Frame) (s : State) → Begins s.output (out_of (eval p lower names e f s))
+  eval_grows names (expr.Atom a) f s = begins_self s.output
+  eval_grows names (expr.Call c) f s = invoke_grows c.callee (arguments names f c.args) s
+
+  pub exec_grows : (names : Names) (c : Code) (f : Frame) (s : State) → Begins s.output (out (exec p lower names c f s))
+  exec_grows names done f s = begins_self s.output
+  exec_grows names (assign x e rest) f s =
+      with_grows s.output (eval p lower names e f s) f (λ c s1. exec p lower names rest (put (position_of x names) c f) s1) (eval_grows names e f s) (λ c s1. exec_grows names rest (put (position_of x names) c f) s1)
+  exec_grows names (call c rest) f s =
+      with_grows s.output (eval p lower names (expr.Call c) f s) f (λ _ s1. exec p lower names rest f s1) (eval_grows names (expr.Call c) f s) (λ _ s1. exec_grows names rest f s1)
+  exec_grows names (return e rest) f s = with_grows s.output (eval p lower names e f s) f (λ c s1. Returns c s1) (eval_grows names e f s) (λ c s1. begins_self s1.output)
+  exec_grows names (loop l body rest) f s =
+      after_grows s.output (iterate lower names l body f s) (λ f1 s1. exec p lower names rest f1 s1) (iterate_grows lower g names l body f s) (λ f1 s1. exec_grows names rest f1 s1)
+
+pub run_grows : (p : List Fun) (b : ℕ) → LowerGrows (run p b)
+run_grows p zero names c f s = begins_self s.output
+run_grows p (suc b) names c f s = exec_grows p (run p b) (run_grows p b) names c f s
+
+wrap_grows : (p : List Fun) (b : ℕ) (names : Names) (body : CBody) (o : List ℕ) (x : Flow) → Begins o (out x) → Begins o (out (wrap p b names body x))
+wrap_grows p b names (Straight ss) o x h = h
+wrap_grows p b names (Looped l ss) o x h = again_grows (run p (suc b)) (run_grows p (suc b)) o names l (onto ss done) x h
+
+delivers_grows : (p : List Fun) (b : ℕ) (names : Names) (to : Dest) (left : List CStmt) (fr : Frame) (c : Cell) (s : State) → Begins s.output (out (delivers p b names to left fr c s))
+delivers_grows p b names (dest.Local x) left fr c s = exec_grows p (run p b) (run_grows p b) names (onto left done) (put x c fr) s
+delivers_grows p b names dest.Nowhere left fr c s = exec_grows p (run p b) (run_grows p b) names (onto left done) fr s
+delivers_grows p b names dest.Caller left fr c s = begins_self s.output
+
+shown_grows : (x : Flow) → (shown x).output ≡ out x
+shown_grows (Next f s) = refl
+shown_grows (Goes l f s) = refl
+shown_grows (Returns c s) = refl
+shown_grows (Escapes x w f s) = refl
+shown_grows (Raises c t s) = refl
+shown_grows (Spends s) = refl
+shown_grows (Fails k s) = refl
+
+callers_grow : (fs : List CFun) (place : List ℕ → ℕ) (rs : List Waiter) (below : List ℕ) (turns : ℕ) (t : CTy) (k : Flow → Observation) → Callers fs place rs below turns t k → (x : Flow) → Begins (out x) (k x).output
+unfolding Callers
+callers_grow fs place [] below turns t k h x =
+    let e : (k x).output ≡ out x = ap (λ (w : Observation). w.output) (h.2 x) ∙ shown_grows x in
+    subst (λ (q : List ℕ). Begins (out x) q) (sym e) (begins_self (out x))
+callers_grow fs place (r ∷ rs) below turns t k h x =
+    let w = h.0 in
+    let p = meant fs in
+    let names = names_in w.fun in
+    let inner = with (answer x) w.frame (delivers p w.bound names r.to w.left w.frame) in
+    let a = with_grows (out x) (answer x) w.frame (delivers p w.bound names r.to w.left w.frame) (subst (λ (q : List ℕ). Begins (out x) q) (sym (answer_grows x)) (begins_self (out x))) (delivers_grows p w.bound names r.to w.left w.frame) in
+    let b = wrap_grows p w.bound names w.fun.body (out x) inner a in
+    let d = callers_grow fs place rs w.under turns w.fun.result w.outer h.1 (wrap p w.bound names w.fun.body inner) in
+    subst (λ (q : Observation). Begins (out x) q.output) (sym (w.whole x)) (begins_after (out x) (out (wrap p w.bound names w.fun.body inner)) _ b d)
+
+module _ (fs : List CFun) (place : List ℕ → ℕ) (c : Config) (o : List ℕ) (w : Observation) where
+  running_begins : Running fs place c o w → Begins o w.output
+  running_begins m =
+      let p = meant fs in
+      let x = flow_of p m.bound m.fun m.left m.frame m.state in
+      let a = wrap_grows p m.bound (names_in m.fun) m.fun.body m.state.output (exec p (run p m.bound) (names_in m.fun) (onto m.left done) m.frame m.state) (exec_grows p (run p m.bound) (run_grows p m.bound) (names_in m.fun) (onto m.left done) m.frame m.state) in
+      let d = callers_grow fs place m.frames m.below m.state.turns m.fun.result m.outer m.callers x in
+      subst (λ (q : Observation). Begins o q.output) (sym m.whole) (subst (λ (q : List ℕ). Begins q (m.outer x).output) (sym m.out) (begins_after m.state.output (out x) (m.outer x).output a d))
+
+  giving_begins : Giving fs place c o w → Begins o w.output
+  giving_begins m =
+      let d = callers_grow fs place m.frames m.below m.state.turns m.fun.result m.outer m.callers (Returns m.cell m.state) in
+      subst (λ (q : Observation). Begins o q.output) (sym m.whole) (subst (λ (q : List ℕ). Begins q (m.outer (Returns m.cell m.state)).output) (sym m.out) d)
+
+  -- what was written so far begins what will be written in all
+  pub means_begins : Means fs place c o w → Begins o w.output
+  means_begins m = ⊎_elim running_begins giving_begins m

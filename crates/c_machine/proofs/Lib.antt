@@ -1,0 +1,16 @@
+pub mod Calls
+pub mod Checking
+pub mod Definitions
+pub mod Distinct
+pub mod Filled
+pub mod Grows
+pub mod Items
+pub mod Means
+pub mod Numbers
+pub mod Operands
+pub mod Operations
+pub mod Places
+pub mod Runs
+pub mod Sinks
+pub mod Sound
+pub mod Typing

@@ -1,0 +1,198 @@
+-- Each operation gives what its action gives.
+use Rattle.std.proofs.Common.{◌≡◌, ℕ, zero, suc, ◌+◌, ◌<◌, ◌≤◌, ◌%◌, Bool, true, false, ◌&&◌, List, [], ◌∷◌, ◌++◌, length, Option, Some, None, slice_get, map, refl, sym, ap, subst, ◌∙◌, if◌then◌else◌, arith}
+use Rattle.std.specs.Prelude.{ℤ, pos, negsuc, ◌+ℤ◌, codes, nat_lt, nat_le, nat_eq}
+use Rattle.std.proofs.lemmas.List.{append-nil}
+use Rattle.std.proofs.lemmas.Bool.{and_parts, leb-true, ltb-true, lt-ltb, lt-leb}
+use Rattle.scheme_data.specs.Fixnum.{IsFixnum, is_fixnum, long_word, fixnum_word}
+use Rattle.base_io.specs.declared.end.End.{End}
+use Rattle.base_io.specs.declared.end.End.TheVariants.{Raised}
+use Rattle.prim_table.specs.declared.primitives.Primitive.TheVariants.{Add, Display, Newline}
+use Rattle.c_tree.specs.declared.op.Op.{Op}
+use Rattle.c_tree.specs.declared.op.Op.TheVariants.{BoxLong, UnboxLong, Raise, Args, Status, Primitive as Prim_op}
+use Rattle.c_tree.specs.declared.tree.CTy.{CTy}
+use Rattle.c_tree.specs.declared.tree.CTy.TheVariants.{Obj, Long, Char, Int}
+use Rattle.c_tree.specs.declared.tree.CAtom.{CAtom}
+use Rattle.c_tree.specs.declared.tree.CAtom.TheVariants as atoms
+use Rattle.c_tree.specs.declared.tree.CArg.{CArg}
+use Rattle.c_tree.specs.declared.tree.CArg.TheVariants as arg
+use Rattle.c_tree.specs.declared.tree.CVar.{CVar}
+use Rattle.c_meaning.specs.Word.{Word, Fixnum, False, True, Nil, Unspec, Eof, number_of, printed}
+use Rattle.c_meaning.specs.State.{Cell, AWord, ANumber, State, Frame, Answer, Has, Leaves, Stops, Ends, Faults}
+use Rattle.c_meaning.specs.Operations.{Argument, ACell, AString, operate, print, fixnum_in, in_range, status_in}
+use Rattle.c_meaning.specs.Execution.{Names, atom, argument, arguments}
+use Rattle.c_meaning.specs.Checked.{Wants, AType, AnError, AText, wants_of, gives_of, is_error, is_byte, argument_fits, arguments_fit, atom_fits}
+use Rattle.c_machine.specs.declared.program.Action.{Action}
+use Rattle.c_machine.specs.declared.program.Action.TheVariants as action
+use Rattle.c_machine.specs.Words.{long_of, fixnum_of, word_text, byte_of, status_of}
+use Rattle.c_machine.specs.Steps.{look, Reads, ReadsNumber, NeedsAction, Gave, Gives, Quits, performed, sum_of, unboxed_of}
+use Rattle.c_machine.specs.Decoded.{operand_of, operand_in, action_of, variable_names}
+use Rattle.c_machine.proofs.Numbers.{WordFits, long_back, fixnum_back, fixnum_tag, word_text_is, status_is, status_byte, when_true, when_false}
+use Rattle.c_machine.proofs.Typing.{slot_of, Fits, Slot, Holds, Reading, atom_reading}
+
+-- an action gives what an answer has, or ends the run as the answer does
+abbrev pub Matches : CTy → State → Gave → Answer → Type 0
+Matches t s (Gives v bytes) (Has c s1) = Slot t c v × (s1 ≡ print bytes s)
+Matches t s (Gives v bytes) (Leaves x w s1) = ⊥
+Matches t s (Gives v bytes) (Stops code text s1) = ⊥
+Matches t s (Gives v bytes) (Ends s1) = ⊥
+Matches t s (Gives v bytes) (Faults k s1) = ⊥
+Matches t s (Quits e) (Has c s1) = ⊥
+Matches t s (Quits e) (Leaves x w s1) = ⊥
+Matches t s (Quits e) (Stops code text s1) = (e ≡ Raised code text) × (s1 ≡ s)
+Matches t s (Quits e) (Ends s1) = ⊥
+Matches t s (Quits e) (Faults k s1) = ⊥
+
+pub print_nothing : (s : State) → s ≡ print [] s
+print_nothing s = ap (λ (o : List ℕ). record s { output = o }) (sym (append-nil s.output))
+
+-- Arguments ---------------------------------------------------------------------------------
+
+pub record OneArg (vars : List CVar) (t : CTy) (args : List CArg) : Type 0 where
+  pub first : CAtom
+  pub is : args ≡ arg.Atom first ∷ []
+  pub fits : atom_fits vars first t ≡ true
+
+pub record TwoArgs (vars : List CVar) (t u : CTy) (args : List CArg) : Type 0 where
+  pub first : CAtom
+  pub second : CAtom
+  pub is : args ≡ arg.Atom first ∷ arg.Atom second ∷ []
+  pub fits : atom_fits vars first t ≡ true
+  pub fits_too : atom_fits vars second u ≡ true
+
+pub no_args : (vars : List CVar) (args : List CArg) → arguments_fit vars [] args ≡ true → args ≡ []
+no_args vars [] h = refl
+no_args vars (a ∷ others) h = absurd (cc)
+
+pub one_arg : (vars : List CVar) (t : CTy) (args : List CArg) → arguments_fit vars (AType t ∷ []) args ≡ true → OneArg vars t args
+one_arg vars t [] h = absurd (cc)
+one_arg vars t (arg.Atom a ∷ others) h =
+    let p = and_parts (atom_fits vars a t) (arguments_fit vars [] others) h in
+    record { first = a; is = ap (λ l. arg.Atom a ∷ l) (no_args vars others p.1); fits = p.0 }
+one_arg vars t (arg.Str text ∷ others) h = absurd (cc)
+
+pub two_args : (vars : List CVar) (t u : CTy) (args : List CArg) → arguments_fit vars (AType t ∷ AType u ∷ []) args ≡ true → TwoArgs vars t u args
+two_args vars t u [] h = absurd (cc)
+two_args vars t u (arg.Atom a ∷ others) h =
+    let p = and_parts (atom_fits vars a t) (arguments_fit vars (AType u ∷ []) others) h in
+    let q = one_arg vars u others p.1 in
+    record { first = a; second = q.first; is = ap (λ l. arg.Atom a ∷ l) q.is; fits = p.0; fits_too = q.fits }
+two_args vars t u (arg.Str text ∷ others) h = absurd (cc)
+
+pub record RaiseArgs (args : List CArg) : Type 0 where
+  pub code : ℕ
+  pub text : List ℕ
+  pub is : args ≡ arg.Atom (atoms.Int (pos code)) ∷ arg.Str text ∷ []
+  pub small : code < 256
+
+text_arg : (vars : List CVar) (args : List CArg) → arguments_fit vars (AText ∷ []) args ≡ true → (text : List ℕ) × (args ≡ arg.Str text ∷ [])
+text_arg vars [] h = absurd (cc)
+text_arg vars (arg.Atom a ∷ others) h = absurd (cc)
+text_arg vars (arg.Str text ∷ others) h = (text, ap (λ l. arg.Str text ∷ l) (no_args vars others h))
+
+raise_atom : (vars : List CVar) (a : CAtom) → argument_fits vars AnError (arg.Atom a) ≡ true → (code : ℕ) × (a ≡ atoms.Int (pos code)) × (code < 256)
+raise_atom vars (atoms.Int (pos n)) h = let p = and_parts (nat_le 1 n) (nat_le n 10) h in let le = leb-true n 10 p.1 in (n, refl, omega arith)
+raise_atom vars (atoms.Int (negsuc n)) h = absurd (cc)
+raise_atom vars (atoms.Name x) h = absurd (cc)
+raise_atom vars atoms.False h = absurd (cc)
+raise_atom vars atoms.True h = absurd (cc)
+raise_atom vars atoms.Nil h = absurd (cc)
+raise_atom vars atoms.Unspec h = absurd (cc)
+raise_atom vars atoms.Eof h = absurd (cc)
+
+pub raise_args : (vars : List CVar) (args : List CArg) → arguments_fit vars (AnError ∷ AText ∷ []) args ≡ true → RaiseArgs args
+raise_args vars [] h = absurd (cc)
+raise_args vars (arg.Str t ∷ others) h = absurd (cc)
+raise_args vars (arg.Atom a ∷ others) h =
+    let p = and_parts (argument_fits vars AnError (arg.Atom a)) (arguments_fit vars (AText ∷ []) others) h in
+    let q = raise_atom vars a p.0 in
+    let r = text_arg vars others p.1 in
+    record { code = q.0; text = r.0; is = ap (λ (x : CAtom). arg.Atom x ∷ others) q.1 ∙ ap (λ l. arg.Atom (atoms.Int (pos q.0)) ∷ l) r.1; small = q.2 }
+
+-- Operations --------------------------------------------------------------------------------
+
+-- what an operation's action needs, and that it gives what the operation answers
+pub record Operated (t : CTy) (s : State) (base : ℕ) (slots : List ℕ) (a : Action) (answer : Answer) : Type 0 where
+  pub needs : NeedsAction a base slots
+  pub same : Matches t s (performed a base slots) answer
+
+boxed_same : (c : Cell) (s : State) (v : ℕ) → Slot Long c v → (IsFixnum (long_of v)) × Matches Obj s (Gives (fixnum_word (long_of v)) []) (operate BoxLong (ACell c ∷ []) s)
+boxed_same (AWord w) s v h = absurd h.fits
+boxed_same (ANumber z) s v h =
+    let back : long_of v ≡ z = ap long_of h.is ∙ long_back z h.fits in
+    (subst IsFixnum (sym back) h.fits, (record { fits = h.fits; is = ap fixnum_word back }, print_nothing s))
+
+unboxed_same : (c : Cell) (s : State) (v : ℕ) → Slot Obj c v → Matches Long s (unboxed_of v) (operate UnboxLong (ACell c ∷ []) s)
+unboxed_same (ANumber z) s v h = absurd h.fits
+unboxed_same (AWord w) s v h = subst (λ (u : ℕ). Matches Long s (unboxed_of u) (fixnum_in w s)) (sym h.is) (each w h.fits)
+  where
+    each : (w : Word) → WordFits w → Matches Long s (unboxed_of (number_of w)) (fixnum_in w s)
+    each (Fixnum z) f =
+        subst (λ (g : Gave). Matches Long s g (Has (ANumber z) s)) (sym (when_true (nat_eq (fixnum_word z % 8) 0) (Gives (long_word (fixnum_of (fixnum_word z))) []) (Quits (Raised 1 (codes "long"))) (fixnum_tag z f)))
+        (record { fits = f; is = ap long_word (fixnum_back z f) }, print_nothing s)
+    each False f = (refl, refl)
+    each True f = (refl, refl)
+    each Nil f = (refl, refl)
+    each Unspec f = (refl, refl)
+    each Eof f = (refl, refl)
+
+status_same : (c : Cell) (s : State) (v : ℕ) → Slot Obj c v → Matches Int s (Gives (status_of v) []) (operate Status (ACell c ∷ []) s)
+status_same (ANumber z) s v h = absurd h.fits
+status_same (AWord w) s v h = (record { fits = status_byte w; is = ap status_of h.is ∙ status_is w h.fits }, print_nothing s)
+
+sum_same : (z : ℤ) (s : State) (b : Bool) → is_fixnum z ≡ b → Matches Long s (if b then Gives (long_word z) [] else Quits (Raised 3 (codes "+"))) (if b then Has (ANumber z) s else Stops 3 (codes "+") s)
+sum_same z s true e = (record { fits = e; is = refl }, print_nothing s)
+sum_same z s false e = (refl, refl)
+
+added_same : (c d : Cell) (s : State) (v w : ℕ) → Slot Long c v → Slot Long d w → (IsFixnum (long_of v)) × (IsFixnum (long_of w)) × Matches Long s (sum_of (long_of v +ℤ long_of w)) (operate (Prim_op Add) (ACell c ∷ ACell d ∷ []) s)
+added_same (AWord x) d s v w h i = absurd h.fits
+added_same (ANumber y) (AWord x) s v w h i = absurd i.fits
+added_same (ANumber y) (ANumber z) s v w h i =
+    let left : long_of v ≡ y = ap long_of h.is ∙ long_back y h.fits in
+    let right : long_of w ≡ z = ap long_of i.is ∙ long_back z i.fits in
+    let both : long_of v +ℤ long_of w ≡ y +ℤ z = ap (λ (x : ℤ). x +ℤ long_of w) left ∙ ap (λ (x : ℤ). y +ℤ x) right in (
+      subst IsFixnum (sym left) h.fits,
+      subst IsFixnum (sym right) i.fits,
+      subst (λ (n : ℤ). Matches Long s (sum_of n) (in_range (y +ℤ z) (codes "+") s)) (sym both) (sum_same (y +ℤ z) s (is_fixnum (y +ℤ z)) refl),
+    )
+
+shown_same : (c : Cell) (s : State) (v : ℕ) → Slot Obj c v → Matches Obj s (Gives 27 (word_text v)) (operate (Prim_op Display) (ACell c ∷ []) s)
+shown_same (ANumber z) s v h = absurd h.fits
+shown_same (AWord w) s v h = (record { fits = tt; is = refl }, ap (λ (t : List ℕ). print t s) (sym (ap word_text h.is ∙ word_text_is w h.fits)))
+
+module _ (vars : List CVar) (f : Frame) (below env : List ℕ) (s : State) (hs : Holds vars f env) where
+  abbrev Done : Op → List CArg → Type 0
+  Done op args = Operated (gives_of op) s (length below) (below ++ env) (action_of (variable_names vars) op args) (operate op (arguments (variable_names vars) f args) s)
+
+  pub operated : (op : Op) (args : List CArg) → arguments_fit vars (wants_of op) args ≡ true → Done op args
+  operated BoxLong args h =
+      let a = one_arg vars Long args h in
+      let r = atom_reading vars f below env Long a.first a.fits hs in
+      let d = boxed_same (atom (variable_names vars) f a.first) s (look (length below) (below ++ env) (operand_of (variable_names vars) a.first)) r.slot in
+      subst (Done BoxLong) (sym a.is) (record { needs = (r.reads, d.0); same = d.1 })
+  operated UnboxLong args h =
+      let a = one_arg vars Obj args h in
+      let r = atom_reading vars f below env Obj a.first a.fits hs in
+      subst (Done UnboxLong) (sym a.is) (record { needs = r.reads; same = unboxed_same (atom (variable_names vars) f a.first) s (look (length below) (below ++ env) (operand_of (variable_names vars) a.first)) r.slot })
+  operated Raise args h =
+      let a = raise_args vars args h in
+      let code : byte_of (pos a.code) ≡ a.code = when_true (nat_lt a.code 256) a.code 0 (lt-ltb a.code 256 a.small) in
+      subst (Done Raise) (sym a.is) (record { needs = tt; same = (ap (λ (n : ℕ). Raised n a.text) code, refl) })
+  operated Args args h = subst (Done Args) (sym (no_args vars args h)) (record { needs = tt; same = (record { fits = tt; is = refl }, print_nothing s) })
+  operated Status args h =
+      let a = one_arg vars Obj args h in
+      let r = atom_reading vars f below env Obj a.first a.fits hs in
+      subst (Done Status) (sym a.is) (record { needs = r.reads; same = status_same (atom (variable_names vars) f a.first) s (look (length below) (below ++ env) (operand_of (variable_names vars) a.first)) r.slot })
+  operated (Prim_op Add) args h =
+      let a = two_args vars Long Long args h in
+      let q = atom_reading vars f below env Long a.first a.fits hs in
+      let r = atom_reading vars f below env Long a.second a.fits_too hs in
+      let base = length below in
+      let slots = below ++ env in
+      let names = variable_names vars in
+      let d = added_same (atom names f a.first) (atom names f a.second) s (look base slots (operand_of names a.first)) (look base slots (operand_of names a.second)) q.slot r.slot in
+      subst (Done (Prim_op Add)) (sym a.is) (record { needs = ((q.reads, d.0), (r.reads, d.1)); same = d.2 })
+  operated (Prim_op Display) args h =
+      let a = one_arg vars Obj args h in
+      let r = atom_reading vars f below env Obj a.first a.fits hs in
+      subst (Done (Prim_op Display)) (sym a.is) (record { needs = r.reads; same = shown_same (atom (variable_names vars) f a.first) s (look (length below) (below ++ env) (operand_of (variable_names vars) a.first)) r.slot })
+  operated (Prim_op Newline) args h = subst (Done (Prim_op Newline)) (sym (no_args vars args h)) (record { needs = tt; same = (record { fits = tt; is = refl }, refl) })

@@ -1,0 +1,5 @@
+pub mod Added
+pub mod Decoded
+pub mod Runs
+pub mod Steps
+pub mod Words

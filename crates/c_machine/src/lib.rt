@@ -1,0 +1,17 @@
+//! The machine: runs checked C programs, with the output and the end that their meaning gives.
+#![tactic(auto)]
+
+mod calling;
+mod decoding;
+mod machine;
+mod names;
+mod output;
+mod performing;
+mod program;
+mod stepping;
+mod words;
+
+pub use machine::Machine;
+
+#[cfg(test)]
+mod tests;

@@ -1,0 +1,62 @@
+// Decoded programs.
+use scheme_data::{List, Text};
+
+/// Where a value comes from: a local by its place, or the word itself.
+#[derive(Clone, Copy, Debug)]
+pub enum Operand {
+    Local(usize),
+    Word(u64),
+}
+
+/// Where a value goes: to a local by its place, nowhere, or to the caller.
+#[derive(Clone, Copy, Debug)]
+pub enum Dest {
+    Local(usize),
+    Nowhere,
+    Caller,
+}
+
+/// What gives a value without a call.
+#[derive(Drop, Debug)]
+pub enum Action {
+    Copy(Operand),
+    BoxLong(Operand),
+    UnboxLong(Operand),
+    Raise(u8, Text),
+    Args,
+    Status(Operand),
+    Add(Operand, Operand),
+    Display(Operand),
+    Newline,
+}
+
+/// An instruction. It goes on with the one after it, unless a turn or a function begins or ends there.
+#[derive(Drop, Debug)]
+pub enum Instr {
+    /// Sends the value of an action.
+    Does(Dest, Action),
+    /// Calls a function by its place, and sends what it gives.
+    Call(Dest, usize, List<Operand>),
+    /// Takes the turn that begins an iteration.
+    Turn,
+    /// Ends the function with the value that was sent to its caller.
+    Give,
+    /// Stands where a function would end without a value.
+    Stop,
+}
+
+/// A function: how many of its locals are no parameters, and its instructions.
+#[derive(Drop, Debug)]
+pub struct Function {
+    pub locals: usize,
+    pub code: List<Instr>,
+}
+
+/// The place of the instruction with which a function gives its value.
+pub const GIVE: usize = 0;
+
+/// The place where a function begins.
+pub const FIRST: usize = 1;
+
+/// The place where the block of a loop begins.
+pub const BLOCK: usize = 2;

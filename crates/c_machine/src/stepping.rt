@@ -1,0 +1,139 @@
+// One instruction.
+ghost use Rattle.std.specs.Prelude.{◌≡◌, ◌≤◌, ◌<◌, ◌+◌, length, slice_get, IsSome, Some};
+ghost use Rattle.base_io.specs.Causes.{Rose};
+ghost use Rattle.c_machine.specs.Steps.{config_of, performed, delivered, sent, NeedsDest, NeedsAction, Needs, act, Does, instr_at};
+
+use crate::calling::{call, give, over, turn};
+use crate::performing::perform;
+use crate::program::{Action, Dest, Function, GIVE, Instr};
+use base_io::{End, FaultKind, Sink};
+use scheme_data::Stack;
+use std::alloc::Global;
+
+/// The function that runs, the instruction that is next, the function's first slot, and the turns left.
+#[derive(Drop)]
+pub struct Regs {
+    pub fun: usize,
+    pub pc: usize,
+    pub base: usize,
+    pub turns: u64,
+}
+
+/// The value that was made last, and how the run ended.
+#[derive(Drop)]
+pub struct Acc {
+    pub value: u64,
+    pub end: End,
+}
+
+/// A function that waits for the value of its call.
+#[derive(Clone, Copy)]
+pub struct Frame {
+    pub to: Dest,
+    pub fun: usize,
+    pub next: usize,
+    pub base: usize,
+}
+
+#[derive(Drop)]
+pub struct Stacks {
+    pub slots: Vec<u64>,
+    pub frames: Stack<Frame>,
+}
+
+/// How a call went: the run goes on, is over, or was cut off.
+#[derive(Clone, Copy, Debug, PartialEq, Eq)]
+pub enum Flow {
+    Going,
+    Over,
+    WriteFault,
+    Memory,
+}
+
+/// Sends a value.
+#[inline(always)]
+pub fn deliver(to: Dest, v: u64, regs: &mut Regs, stacks: &mut Stacks)
+    requires { NeedsDest to regs.old.base stacks.old.slots.items }
+    ensures { config_of regs.new stacks.new v ≡ delivered to v (config_of regs.old stacks.old v) }
+{
+    match to {
+        Dest::Local(x) => {
+            let at = regs.base + x;
+            stacks.slots[at] = v;
+        }
+        Dest::Nowhere => {}
+        Dest::Caller => regs.pc = GIVE,
+    }
+}
+
+#[inline(always)]
+fn does<K: Sink>(
+    alloc: Global,
+    to: Dest,
+    action: &Action,
+    regs: &mut Regs,
+    acc: &mut Acc,
+    stacks: &mut Stacks,
+    out: &mut K,
+) -> Flow
+    requires to { NeedsDest to regs.old.base stacks.old.slots.items }
+    requires action { NeedsAction action.now regs.old.base stacks.old.slots.items }
+    ensures does { Does (sent to (performed action.now regs.old.base stacks.old.slots.items) (config_of regs.old stacks.old acc.old.value)) result (config_of regs.new stacks.new acc.new.value) acc.new.end (K.written out.old) (K.written out.new) }
+    ensures later { K.faults out.old ≤ K.faults out.new }
+    ensures cause { result ≡ Flow.WriteFault → Rose (K.faults out.old) (K.faults out.new) }
+{
+    let flow = perform(alloc, action, regs.base, stacks.slots.as_slice(), acc, out);
+    if let Flow::Going = flow {
+        deliver(to, acc.value, regs, stacks);
+    }
+    flow
+}
+
+/// Does one instruction, where the next one is known already.
+#[inline(always)]
+pub fn step<K: Sink>(
+    alloc: Global,
+    instr: &Instr,
+    funs: &[Function],
+    regs: &mut Regs,
+    acc: &mut Acc,
+    stacks: &mut Stacks,
+    out: &mut K,
+) -> Flow
+    requires { Needs instr.now funs.now (config_of regs.old stacks.old acc.old.value) }
+    ensures does { Does (act instr.now funs.now (config_of regs.old stacks.old acc.old.value)) result (config_of regs.new stacks.new acc.new.value) acc.new.end (K.written out.old) (K.written out.new) }
+    ensures later { K.faults out.old ≤ K.faults out.new }
+    ensures cause { result ≡ Flow.WriteFault → Rose (K.faults out.old) (K.faults out.new) }
+{
+    match instr {
+        Instr::Does(to, action) => does(alloc, *to, action, regs, acc, stacks, out),
+        Instr::Call(to, fun, args) => {
+            let callee = function_at(funs, *fun);
+            call(callee, *to, *fun, args, regs, stacks, acc)
+        }
+        Instr::Turn => turn(regs, stacks, acc),
+        Instr::Give => give(regs, stacks, acc),
+        Instr::Stop => over(acc, End::Fault(FaultKind::Tag)),
+    }
+}
+
+#[inline(always)]
+pub fn function_at(funs: &[Function], fun: usize) -> &Function
+    requires { fun < length funs.now }
+    ensures { slice_get funs.now fun ≡ Some result.now }
+{
+    &funs[fun]
+}
+
+/// The next instruction, after which the one behind it is the next.
+#[inline(always)]
+pub fn fetch<'a>(funs: &'a [Function], regs: &mut Regs) -> &'a Instr
+    requires { IsSome (instr_at funs.now regs.old.fun regs.old.pc) }
+    ensures instr { instr_at funs.now regs.old.fun regs.old.pc ≡ Some result.now }
+    ensures regs { regs.new ≡ record regs.old { pc = regs.old.pc + 1 } }
+{
+    let code = function_at(funs, regs.fun).code.as_slice();
+    let at = regs.pc;
+    regs.pc = at + 1;
+    &code[at]
+}

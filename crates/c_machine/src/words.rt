@@ -1,0 +1,80 @@
+// Words and numbers as 64 bits.
+ghost use Rattle.std.specs.Prelude.{◌≡◌, ◌%◌};
+ghost use Rattle.scheme_data.specs.Fixnum.{IsFixnum, IsFixnumWord, fixnum_word, long_word};
+ghost use Rattle.c_machine.specs.Words.{long_of, fixnum_of, constant_text, byte_of, status_of};
+
+use scheme_data::{box_long, is_long, unbox_long};
+
+#[inline(always)]
+pub fn bits_of(n: i64) -> u64
+    ensures { result ≡ long_word n }
+{
+    n.cast_unsigned()
+}
+
+#[inline(always)]
+pub fn number_of(v: u64) -> i64
+    ensures { result ≡ long_of v }
+{
+    v.cast_signed()
+}
+
+#[inline(always)]
+pub fn boxed(v: u64) -> u64
+    requires { IsFixnum (long_of v) }
+    ensures { result ≡ fixnum_word (long_of v) }
+{
+    box_long(number_of(v))
+}
+
+#[inline(always)]
+pub fn fixnum(w: u64) -> i64
+    requires { IsFixnumWord w }
+    ensures { result ≡ fixnum_of w }
+{
+    unbox_long(w)
+}
+
+#[inline(always)]
+pub fn unboxed(w: u64) -> u64
+    requires { IsFixnumWord w }
+    ensures { result ≡ long_word (fixnum_of w) }
+{
+    bits_of(fixnum(w))
+}
+
+/// A number from 0 to 255, and 0 for all else.
+pub fn byte(n: i64) -> u8
+    ensures { result ≡ byte_of n }
+{
+    if 0 <= n && n < 256 { n as u8 } else { 0 }
+}
+
+pub fn status(w: u64) -> u64
+    ensures { result ≡ status_of w }
+{
+    if is_long(w) {
+        u64::from(byte(fixnum(w)))
+    } else {
+        0
+    }
+}
+
+/// How a constant prints.
+pub fn text_of_constant(w: u64) -> &'static [u8]
+    ensures { result.now ≡ constant_text w }
+{
+    if w == 3 {
+        return b"#f";
+    }
+    if w == 11 {
+        return b"#t";
+    }
+    if w == 19 {
+        return b"()";
+    }
+    if w == 27 {
+        return b"#unspecified";
+    }
+    b"#eof-object"
+}
