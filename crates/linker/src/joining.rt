@@ -1,0 +1,97 @@
+// The program of one object: its unit's items, and then `main`.
+ghost use Rattle.std.specs.Prelude.{◌≡◌, [], ◌∷◌, IfOk};
+ghost use Rattle.c_tree.specs.Code.{items_of, item_of, onto, done, return, assign};
+ghost use Rattle.c_tree.specs.Spelling.{NamedItems};
+ghost use Rattle.c_tree.specs.declared.op.Op.TheVariants.{Args};
+ghost use Rattle.c_tree.specs.declared.tree.CTy.TheVariants.{Obj as ObjTy};
+ghost use Rattle.object_text.specs.Format.{object_tree, CanBeWritten};
+ghost use Rattle.plan_rules.specs.Representation.{local};
+ghost use Rattle.plan_rules.specs.Joined.{joined, main_item, first_local, second_local};
+ghost use Rattle.linker.specs.MainParts.{main_code};
+
+use c_tree::{
+    CArg, CAtom, CBody, CCall, CExpr, CFun, CItem, CProgram, CStmt, CTy, CVar, Callee, Op,
+    function_name_text,
+};
+use object_text::Object;
+use scheme_data::{List, OutOfMemory, Text};
+use std::alloc::Global;
+
+const FIRST: &[u8] = b"x0";
+
+const SECOND: &[u8] = b"x1";
+
+/// The object's unit with its `main`.
+pub fn joined_program(alloc: Global, o: Object) -> Result<CProgram, OutOfMemory>
+    requires { CanBeWritten (object_tree o) }
+    ensures is { IfOk result (λ p. items_of p.items ≡ joined o.module_name o.main (items_of o.unit.items)) }
+    ensures named { IfOk result (λ p. NamedItems (items_of p.items)) }
+{
+    let name = function_name_text(alloc, o.module_name.as_bytes(), o.main.as_bytes())?;
+    let mut items = o.unit.items;
+    items.push(item_main(alloc, name)?)?;
+    Ok(CProgram { items })
+}
+
+/// The item `main`, which calls the function with this name.
+fn item_main(alloc: Global, name: Text) -> Result<CItem, OutOfMemory>
+    ensures { IfOk result (λ i. item_of i ≡ main_item name) }
+{
+    Ok(CItem::Defined(CFun {
+        result: CTy::Int,
+        name: Text::from_bytes(alloc, b"main")?,
+        params: List::new(alloc),
+        locals: main_locals(alloc)?,
+        body: CBody::Straight(main_statements(alloc, name)?),
+    }))
+}
+
+fn main_locals(alloc: Global) -> Result<List<CVar>, OutOfMemory>
+    ensures { IfOk result (λ vs. vs ≡ record { ty = ObjTy; name = first_local } ∷ record { ty = ObjTy; name = second_local } ∷ []) }
+{
+    let mut locals = List::new(alloc);
+    locals.push(object_local(alloc, FIRST)?)?;
+    locals.push(object_local(alloc, SECOND)?)?;
+    Ok(locals)
+}
+
+fn object_local(alloc: Global, name: &[u8]) -> Result<CVar, OutOfMemory>
+    ensures { IfOk result (λ v. v ≡ record { ty = ObjTy; name = name.now }) }
+{
+    Ok(CVar {
+        ty: CTy::Obj,
+        name: Text::from_bytes(alloc, name)?,
+    })
+}
+
+/// The arguments are fetched, the function is called with them, and its value's status is returned.
+fn main_statements(alloc: Global, name: Text) -> Result<List<CStmt>, OutOfMemory>
+    ensures { IfOk result (λ ss. onto ss done ≡ main_code name) }
+{
+    let fetch = CCall {
+        callee: Callee::Op(Op::Args),
+        args: List::new(alloc),
+    };
+    let run = call_with(alloc, Callee::Fun(name), FIRST)?;
+    let status = call_with(alloc, Callee::Op(Op::Status), SECOND)?;
+    let mut statements = List::new(alloc);
+    statements.push(assignment(alloc, FIRST, fetch)?)?;
+    statements.push(assignment(alloc, SECOND, run)?)?;
+    statements.push(CStmt::Return(CExpr::Call(status)))?;
+    Ok(statements)
+}
+
+fn assignment(alloc: Global, name: &[u8], call: CCall) -> Result<CStmt, OutOfMemory>
+    ensures { IfOk result (λ s. s ≡ CStmt.Assign name.now (CExpr.Call call)) }
+{
+    Ok(CStmt::Assign(Text::from_bytes(alloc, name)?, CExpr::Call(call)))
+}
+
+/// A call with one local.
+fn call_with(alloc: Global, callee: Callee, name: &[u8]) -> Result<CCall, OutOfMemory>
+    ensures { IfOk result (λ c. c ≡ record { callee = callee; args = local name.now ∷ [] }) }
+{
+    let mut args = List::new(alloc);
+    args.push(CArg::Atom(CAtom::Name(Text::from_bytes(alloc, name)?)))?;
+    Ok(CCall { callee, args })
+}
