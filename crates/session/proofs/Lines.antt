@@ -1,0 +1,256 @@
+-- One line: its steps put together, once for all commands.
+use Rattle.std.proofs.Common.{◌≡◌, ℕ, ◌+◌, ◌<◌, Bool, true, false, cond, List, [], ◌∷◌, ◌++◌, map, length, Option, Some, None, Result, Ok, Err, inl, inr, refl, ap, sym, ◌∙◌, arith, subst, append_assoc, unwrap_or, Contains}
+use Rattle.std.proofs.lemmas.List.{append-nil}
+use Rattle.std.specs.Ordering.{nat_cmp, eq_by_cmp}
+use Rattle.std.specs.Cmp.Lexicographic.{slice_cmp, nat_list_cmp_total}
+use Rattle.std.specs.FinMap.{FinMap, get, insert, get-insert}
+use Rattle.base_io.specs.Contents.{Bytes, Contents, KeepsOthers}
+use Rattle.base_io.specs.declared.end.End.{End}
+use Rattle.core_tree.specs.Tree.{ModuleTree}
+use Rattle.meaning.specs.Program.{src}
+use Rattle.c_tree.specs.Spelling.{CText}
+use Rattle.plan_rules.specs.Joined.{joined}
+use Rattle.object_text.specs.Format.{ObjectTree, ObjectText}
+use Rattle.unit_compile.specs.Compilation.{IsModuleOf, Compiled}
+use Rattle.linker.specs.Links.{Linked}
+use Rattle.simulation.specs.Law.{KeepsMeaning}
+use Rattle.commands.specs.declared.command.Command.{Command}
+use Rattle.commands.specs.declared.command.Command.TheVariants.{Blank, Iface, Compile, Link, Run}
+use Rattle.session.specs.declared.answer.Effect.{Effect}
+use Rattle.session.specs.declared.answer.Effect.TheVariants.{Nothing, Wrote, Ran}
+use Rattle.session.specs.declared.answer.Halt.{Halt}
+use Rattle.session.specs.declared.answer.Halt.TheVariants.{NoFile, FileFault, WriteFault, Refused, Memory}
+use Rattle.session.specs.Works.{Kind, as_given, as_object, as_program, Held, Stands, MeansSource, AllStand, bytes_of, Gives, Refuses, MayAdd, reads_of, writes_of, kind_of_work, kind_of_linked, kind_of_joined}
+use Rattle.session.specs.Outside.{missing, ReadAll, WroteOne}
+use Rattle.session.specs.Done.{Performs, Added}
+use Rattle.session.specs.Steps.{Finished}
+use Rattle.session.specs.Scripts.{State, held, after, Steps, Stops, Same, FilesBut, CutOff, Remains, Kept, Agrees, LineDid}
+
+-- For each command --------------------------------------------------------------------------
+
+-- the name that an effect writes is the command's
+pub gives_writes : (c : Command) (hs : List Held) (added name bytes : Bytes) → Gives c hs added (Wrote name bytes) → writes_of c ≡ name ∷ []
+unfolding Gives
+gives_writes Blank hs added name bytes g = absurd (let e = g.1 in cc)
+gives_writes (Iface s n) hs added name bytes g = absurd g
+gives_writes (Compile s n is) [] added name bytes g = absurd g.1
+gives_writes (Compile s n is) (h ∷ hs) added name bytes g = let e = g.1.1.0 in let same : name ≡ n = cc in ap (λ (x : Bytes). x ∷ []) (sym same)
+gives_writes (Link n os) hs added name bytes g = let e = g.1.1.0 in let same : name ≡ n = cc in ap (λ (x : Bytes). x ∷ []) (sym same)
+gives_writes (Run p t a) [] added name bytes g = absurd g
+gives_writes (Run p t a) (h ∷ hs) added name bytes g = absurd (let e = g.1.2 in cc)
+
+-- the text of one object of a source's module, linked, means what the module means
+linked_means : KeepsMeaning → (source bytes text : Bytes) → Compiled source [] bytes → Linked (bytes ∷ []) text → MeansSource source text
+unfolding KeepsMeaning
+linked_means law source bytes text made linked =
+    let m : ModuleTree = made.module_tree in
+    let o : ObjectTree = made.object in
+    let bytes_are : bytes ≡ linked.bytes = let e = linked.one in cc in
+    let same : o ≡ linked.object = linked.only o (subst (λ (b : Bytes). ObjectText b o) bytes_are made.is_text) in
+    let spelled : CText text (joined o.module_name o.main o.items) = subst (λ (x : ObjectTree). CText text (joined x.module_name x.main x.items)) (sym same) linked.is_text in
+    let faithful = law m o.main o.items made.is_object.main made.program made.is_object.translated in
+    record {
+      items = joined m.name o.main o.items;
+      text = subst (λ (n : Bytes). CText text (joined n o.main o.items)) made.is_object.name spelled;
+      checked = faithful.checked;
+      module_tree = m;
+      is_module = made.is_module;
+      same = λ other is input args turns. faithful.same input args turns ∙ ap (λ (x : ModuleTree). src x input args turns) (sym (made.only other is));
+    }
+
+joined_stands : KeepsMeaning → (kind : Kind) (bytes text : Bytes) → Stands kind bytes → Linked (bytes ∷ []) text → Stands (kind_of_joined kind) text
+unfolding Stands
+joined_stands law as_given bytes text stands linked = tt
+joined_stands law (as_object source) bytes text stands linked = linked_means law source bytes text stands linked
+joined_stands law (as_program source) bytes text stands linked = tt
+
+linked_stands : KeepsMeaning → (hs : List Held) (text : Bytes) → AllStand hs → Linked (bytes_of hs) text → Stands (kind_of_linked hs) text
+unfolding Stands
+linked_stands law [] text all linked = tt
+linked_stands law (h ∷ []) text all linked = joined_stands law h.kind h.bytes text all.0 linked
+linked_stands law (h ∷ n ∷ hs) text all linked = tt
+
+compiled_stands : (source name text bytes : Bytes) (ifaces : List Bytes) → Compiled source ifaces text → bytes ≡ text → Stands (as_object source) bytes
+unfolding Stands
+compiled_stands source name text bytes ifaces made is =
+    subst (λ (b : Bytes). Compiled source [] b) (sym is) (subst (λ (l : List Bytes). Compiled source l text) made.none made)
+
+-- what it writes is as is then known of it
+pub gives_stands : KeepsMeaning → (c : Command) (hs : List Held) (added name bytes : Bytes) → AllStand hs → Gives c hs added (Wrote name bytes) → Stands (kind_of_work c hs) bytes
+unfolding Gives
+gives_stands law Blank hs added name bytes all g = absurd (let e = g.1 in cc)
+gives_stands law (Iface s n) hs added name bytes all g = absurd g
+gives_stands law (Compile s n is) [] added name bytes all g = absurd g.1
+gives_stands law (Compile s n is) (h ∷ hs) added name bytes all g = let e = g.1.1.0 in let same : bytes ≡ g.1.0 = cc in compiled_stands h.bytes name g.1.0 bytes (bytes_of hs) g.1.1.1 same
+gives_stands law (Link n os) hs added name bytes all g = let e = g.1.1.0 in let same : bytes ≡ g.1.0 = cc in subst (λ (b : Bytes). Stands (kind_of_linked hs) b) (sym same) (linked_stands law hs g.1.0 all g.1.1.1)
+gives_stands law (Run p t a) [] added name bytes all g = absurd g
+gives_stands law (Run p t a) (h ∷ hs) added name bytes all g = absurd (let e = g.1.2 in cc)
+
+-- For all of them ---------------------------------------------------------------------------
+
+-- what was read, and that it is as is known of it
+pub texts_are : (s : State) (names : List Bytes) → bytes_of (map (held s) names) ≡ map (λ (n : Bytes). unwrap_or (get s.files n) []) names
+texts_are s [] = refl
+texts_are s (n ∷ names) = ap (λ (l : List Bytes). unwrap_or (get s.files n) [] ∷ l) (texts_are s names)
+
+pub all_stand : (s : State) (names : List Bytes) → Kept s → AllStand (map (held s) names)
+unfolding Kept
+all_stand s [] kept = tt
+all_stand s (n ∷ names) kept = (kept n, all_stand s names kept)
+
+untouched_files : (names : List Bytes) (files : Contents) (contents : Option Contents) → contents ≡ Some files → FilesBut names files contents
+untouched_files names files contents is = subst (λ (x : Option Contents). FilesBut names files x) (sym is) (λ name other. refl)
+
+-- nothing was touched
+pub uncut : (c : Command) (s : State) (base : Bytes) (contents : Option Contents) (written : Option Bytes) → Same s base contents written → CutOff c s base contents written
+uncut c s base contents written same = record {
+  files_are = untouched_files (writes_of c) s.files contents same.files_are;
+  added = [];
+  part = inl refl;
+  written_is = same.written_is ∙ ap (λ (l : Bytes). Some l) (sym (append-nil (base ++ s.output)));
+}
+
+pub line_no_memory : (c : Command) (s : State) (base : Bytes) (contents : Option Contents) (written : Option Bytes) (ends' : List End) → Same s base contents written → LineDid c s (Err Memory) base contents written ends'
+unfolding LineDid Stops Remains
+line_no_memory c s base contents written ends' same = (tt, uncut c s base contents written same)
+
+pub line_no_files : (c : Command) (s : State) (base : Bytes) (contents : Option Contents) (written : Option Bytes) (ends' : List End) (names : List Bytes) (h : Halt) → Same s base contents written → names ≡ reads_of c → ReadAll (Some s.files) names (Err h) → LineDid c s (Err h) base contents written ends'
+unfolding LineDid Stops Remains
+line_no_files c s base contents written ends' names (NoFile n) same are told = (ap (λ (l : List Bytes). missing s.files l) (sym are) ∙ told, same)
+line_no_files c s base contents written ends' names (FileFault n) same are told = (inl (subst (λ (l : List Bytes). Contains l n) are told), uncut c s base contents written same)
+line_no_files c s base contents written ends' names Memory same are told = (tt, uncut c s base contents written same)
+line_no_files c s base contents written ends' names WriteFault same are told = absurd told
+line_no_files c s base contents written ends' names (Refused r) same are told = absurd told
+
+-- the command was refused or cut off
+pub line_not_performed : (c : Command) (s : State) (base : Bytes) (contents : Option Contents) (written' : Option Bytes) (ends' : List End) (h : Halt) → contents ≡ Some s.files → missing s.files (reads_of c) ≡ None → Performs c (map (held s) (reads_of c)) (Some (base ++ s.output)) written' (Err h) → LineDid c s (Err h) base contents written' ends'
+unfolding LineDid Stops Remains Performs
+line_not_performed c s base contents written' ends' (Refused r) files there told = ((there, told.0), record { files_are = files; written_is = told.1 })
+line_not_performed c s base contents written' ends' WriteFault files there told = (tt, record { files_are = untouched_files (writes_of c) s.files contents files; added = told.0; part = told.1.0; written_is = told.1.1 })
+line_not_performed c s base contents written' ends' Memory files there told = (tt, record { files_are = untouched_files (writes_of c) s.files contents files; added = told.0; part = told.1.0; written_is = told.1.1 })
+line_not_performed c s base contents written' ends' (NoFile n) files there told = absurd told
+line_not_performed c s base contents written' ends' (FileFault n) files there told = absurd told
+
+-- a name that is written is as is then known of it, and all others stay as they are
+kept_write : (s : State) (name bytes : Bytes) (kind : Kind) (other : Bytes) → Kept s → Stands kind bytes → Stands (unwrap_or (get (insert s.kinds name kind) other) as_given) (unwrap_or (get (insert s.files name bytes) other) [])
+unfolding Kept
+kept_write s name bytes kind other kept stands =
+    let kinds = get-insert nat_list_cmp_total s.kinds name kind other in
+    let files = get-insert nat_list_cmp_total s.files name bytes other in
+    let both : (b : Bool) → Stands (unwrap_or (cond b (Some kind) (get s.kinds other)) as_given) (unwrap_or (cond b (Some bytes) (get s.files other)) []) = λ (b : Bool). elim b as (λ (b : Bool). Stands (unwrap_or (cond b (Some kind) (get s.kinds other)) as_given) (unwrap_or (cond b (Some bytes) (get s.files other)) [])) [ true ↦ stands | false ↦ kept other ] in
+    subst (λ (k : Option Kind). Stands (unwrap_or k as_given) (unwrap_or (get (insert s.files name bytes) other) [])) (sym kinds)
+    (subst (λ (f : Option Bytes). Stands (unwrap_or (cond (eq_by_cmp (slice_cmp nat_cmp) other name) (Some kind) (get s.kinds other)) as_given) (unwrap_or f [])) (sym files)
+    (both (eq_by_cmp (slice_cmp nat_cmp) other name)))
+
+others_kept : (name : Bytes) (names : List Bytes) (files : Contents) (contents : Option Contents) → names ≡ name ∷ [] → KeepsOthers name files contents → FilesBut names files contents
+others_kept name names files None are kept = absurd kept
+others_kept name names files (Some new) are kept = λ other apart. kept other (λ (same : other ≡ name). apart (subst (λ (l : List Bytes). Contains l other) (sym are) (0, omega arith, sym same)))
+
+-- a command that has an effect: its line, from s, is not yet kept
+pub record Worked (c : Command) (s : State) (base : Bytes) (written : Option Bytes) (effect : Effect) : Type 0 where
+  pub there : missing s.files (reads_of c) ≡ None
+  pub kept : Kept s
+  pub added : Bytes
+  pub gives : Gives c (map (held s) (reads_of c)) added effect
+  pub written_is : written ≡ Some (base ++ s.output ++ added)
+
+pub worked : (c : Command) (s : State) (base : Bytes) (written' : Option Bytes) (effect : Effect) → Kept s → missing s.files (reads_of c) ≡ None → Performs c (map (held s) (reads_of c)) (Some (base ++ s.output)) written' (Ok effect) → Worked c s base written' effect
+unfolding Performs
+worked c s base written' effect kept there told = record { there = there; kept = kept; added = told.0; gives = told.1.0; written_is = told.1.1 }
+
+whole : (c : Command) (s : State) (base : Bytes) (written : Option Bytes) (effect : Effect) (w : Worked c s base written effect) → MayAdd c (map (held s) (reads_of c)) w.added
+whole c s base written effect w = inr ([], (effect, subst (λ (l : Bytes). Gives c (map (held s) (reads_of c)) l effect) (sym (append-nil w.added)) w.gives))
+
+steps_of : (c : Command) (s : State) (base : Bytes) (written : Option Bytes) (effect : Effect) (w : Worked c s base written effect) → Steps c s (after (kind_of_work c (map (held s) (reads_of c))) w.added effect s)
+steps_of c s base written effect w = record { there = w.there; added = w.added; effect = effect; gives = w.gives; then = refl }
+
+-- a file was to be written
+wrote : KeepsMeaning → (c : Command) (s : State) (base : Bytes) (contents' : Option Contents) (written : Option Bytes) (ends' : List End) (name bytes : Bytes) (r : Result (Unit {0}) Halt) → Worked c s base written (Wrote name bytes) → ends' ≡ s.ends → WroteOne (Some s.files) contents' name bytes r → LineDid c s r base contents' written ends'
+unfolding LineDid Stops Remains Kept
+wrote law c s base contents' written ends' name bytes (Ok done) w ends told =
+    let stands = gives_stands law c (map (held s) (reads_of c)) w.added name bytes (all_stand s (reads_of c) w.kept) w.gives in (
+      after (kind_of_work c (map (held s) (reads_of c))) w.added (Wrote name bytes) s,
+      (
+        steps_of c s base written (Wrote name bytes) w,
+        record {
+          same = record { files_are = told; written_is = w.written_is ∙ ap (λ (l : Bytes). Some l) (append_assoc base s.output w.added) };
+          ends_are = ends;
+          kept = λ other. kept_write s name bytes (kind_of_work c (map (held s) (reads_of c))) other w.kept stands;
+        },
+      ),
+    )
+wrote law c s base contents' written ends' name bytes (Err (FileFault n)) w ends told =
+    let writes = gives_writes c (map (held s) (reads_of c)) w.added name bytes w.gives in (
+      inr (subst (λ (l : List Bytes). Contains l n) (sym writes) (0, omega arith, sym told.0)),
+      record { files_are = others_kept name (writes_of c) s.files contents' writes told.1; added = w.added; part = whole c s base written (Wrote name bytes) w; written_is = w.written_is },
+    )
+wrote law c s base contents' written ends' name bytes (Err Memory) w ends told =
+    let writes = gives_writes c (map (held s) (reads_of c)) w.added name bytes w.gives in
+    (tt, record { files_are = others_kept name (writes_of c) s.files contents' writes told; added = w.added; part = whole c s base written (Wrote name bytes) w; written_is = w.written_is })
+wrote law c s base contents' written ends' name bytes (Err (NoFile n)) w ends told = absurd told
+wrote law c s base contents' written ends' name bytes (Err WriteFault) w ends told = absurd told
+wrote law c s base contents' written ends' name bytes (Err (Refused x)) w ends told = absurd told
+
+-- where no file is written, all names stay as they are
+same_kept : (c : Command) (s : State) (added : Bytes) → Kept s → Kept (after (kind_of_work c (map (held s) (reads_of c))) added Nothing s)
+unfolding Kept
+same_kept c s added kept = kept
+
+ran_kept : (c : Command) (s : State) (added : Bytes) (end : End) → Kept s → Kept (after (kind_of_work c (map (held s) (reads_of c))) added (Ran end) s)
+unfolding Kept
+ran_kept c s added end kept = kept
+
+-- all was done, or what it made could not be kept
+line_kept : KeepsMeaning → (c : Command) (s : State) (base : Bytes) (contents contents' : Option Contents) (written : Option Bytes) (ends ends' : List End) (effect : Effect) (r : Result (Unit {0}) Halt) → contents ≡ Some s.files → ends ≡ s.ends → Worked c s base written effect → Finished contents contents' ends ends' effect r → LineDid c s r base contents' written ends'
+unfolding LineDid Stops Remains
+line_kept law c s base contents contents' written ends ends' Nothing (Ok done) files ends_are w noted = (
+  after (kind_of_work c (map (held s) (reads_of c))) w.added Nothing s,
+  (
+    steps_of c s base written Nothing w,
+    record {
+      same = record { files_are = noted.1 ∙ files; written_is = w.written_is ∙ ap (λ (l : Bytes). Some l) (append_assoc base s.output w.added) };
+      ends_are = noted.0 ∙ ends_are;
+      kept = same_kept c s w.added w.kept;
+    },
+  ),
+)
+line_kept law c s base contents contents' written ends ends' Nothing (Err h) files ends_are w noted = absurd noted
+line_kept law c s base contents contents' written ends ends' (Wrote name bytes) r files ends_are w noted =
+    wrote law c s base contents' written ends' name bytes r w (noted.0 ∙ ends_are) (subst (λ (x : Option Contents). WroteOne x contents' name bytes r) files noted.1)
+line_kept law c s base contents contents' written ends ends' (Ran end) (Ok done) files ends_are w noted = (
+  after (kind_of_work c (map (held s) (reads_of c))) w.added (Ran end) s,
+  (
+    steps_of c s base written (Ran end) w,
+    record {
+      same = record { files_are = noted.1 ∙ files; written_is = w.written_is ∙ ap (λ (l : Bytes). Some l) (append_assoc base s.output w.added) };
+      ends_are = noted.0 ∙ ap (λ (l : List End). l ++ end ∷ []) ends_are;
+      kept = ran_kept c s w.added end w.kept;
+    },
+  ),
+)
+line_kept law c s base contents contents' written ends ends' (Ran end) (Err h) files ends_are w noted =
+    subst (λ (x : Halt). LineDid c s (Err x) base contents' written ends') (sym noted.0) (
+      tt,
+      record {
+        files_are = untouched_files (writes_of c) s.files contents' (noted.1 ∙ files);
+        added = w.added;
+        part = whole c s base written (Ran end) w;
+        written_is = w.written_is;
+      },
+    )
+
+pub line_finished : KeepsMeaning → (c : Command) (s : State) (base : Bytes) (contents contents' : Option Contents) (written' : Option Bytes) (ends ends' : List End) (effect : Effect) (r : Result (Unit {0}) Halt) → contents ≡ Some s.files → Kept s → ends ≡ s.ends → missing s.files (reads_of c) ≡ None → Performs c (map (held s) (reads_of c)) (Some (base ++ s.output)) written' (Ok effect) → Finished contents contents' ends ends' effect r → LineDid c s r base contents' written' ends'
+line_finished law c s base contents contents' written' ends ends' effect r files kept ends_are there told noted =
+    line_kept law c s base contents contents' written' ends ends' effect r files ends_are (worked c s base written' effect kept there told) noted
+
+-- what was read is what the state says
+pub read_done : (s : State) (contents : Option Contents) (names reads texts : List Bytes) → contents ≡ Some s.files → names ≡ reads → ReadAll contents names (Ok texts) → (missing s.files reads ≡ None) × (bytes_of (map (held s) reads) ≡ texts)
+read_done s contents names reads texts files are told =
+    let here : ReadAll (Some s.files) reads (Ok texts) = subst (λ (l : List Bytes). ReadAll (Some s.files) l (Ok texts)) are (subst (λ (x : Option Contents). ReadAll x names (Ok texts)) files told) in
+    (here.0, texts_are s reads ∙ sym here.1)
+
+pub files_told : (s : State) (contents : Option Contents) (names : List Bytes) (h : Halt) → contents ≡ Some s.files → ReadAll contents names (Err h) → ReadAll (Some s.files) names (Err h)
+files_told s contents names h files told = subst (λ (x : Option Contents). ReadAll x names (Err h)) files told
+
+pub performed : (c : Command) (hs : List Held) (old new : Option Bytes) (bytes : Bytes) (r : Result Effect Halt) → old ≡ Some bytes → Performs c hs old new r → Performs c hs (Some bytes) new r
+performed c hs old new bytes r is told = subst (λ (x : Option Bytes). Performs c hs x new r) is told

@@ -1,0 +1,85 @@
+-- A run of a text, in its steps.
+use Rattle.std.proofs.Common.{◌≡◌, ◌⊎◌, ℕ, List, [], ◌∷◌, ◌++◌, Option, Some, None, Result, Ok, Err, inl, inr, refl, ap, sym, ◌∙◌, subst, append_assoc}
+use Rattle.std.proofs.lemmas.List.{append-nil}
+use Rattle.base_io.specs.Contents.{Bytes}
+use Rattle.base_io.specs.Observation.{Observation}
+use Rattle.base_io.specs.declared.end.End.{End}
+use Rattle.base_io.specs.declared.end.RunErr.{RunErr}
+use Rattle.base_io.specs.declared.end.RunErr.TheVariants as run_err
+use Rattle.c_tree.specs.Code.{Item, items_of}
+use Rattle.c_tree.specs.Spelling.{CText}
+use Rattle.c_tree.specs.declared.tree.CProgram.{CProgram}
+use Rattle.c_meaning.specs.Program.{cm}
+use Rattle.c_meaning.specs.Checked.{IsChecked}
+use Rattle.c_machine.specs.Runs.{Ran, WrotePart}
+use Rattle.session.specs.declared.answer.Halt.{Halt}
+use Rattle.session.specs.declared.answer.Halt.TheVariants.{NoFile, FileFault, WriteFault, Refused, Memory}
+use Rattle.session.specs.declared.answer.Refusal.TheVariants.{NotBuilt}
+use Rattle.session.specs.Outside.{PutAll}
+use Rattle.session.specs.Works.{IsProgramText, TextRuns, NotRun, last_line, printed, no_input}
+use Rattle.session.specs.Done.{HasTree, ProgramRead, Loaded, RanTo, CutRun, TextRan}
+
+-- the machine failed
+pub machine_failed : (old new : Option Bytes) (seen : Observation) (e : RunErr) → Ran old new seen (Err e) → RanTo old new seen (Err e)
+machine_failed None new seen e ran = tt
+machine_failed (Some o) new seen e ran = record {
+  added = ran.added;
+  rest = ran.rest ++ last_line seen.end;
+  is = ap (λ (l : Bytes). l ++ last_line seen.end) ran.is ∙ append_assoc ran.added ran.rest (last_line seen.end);
+  written = ran.written;
+}
+
+-- the error line was cut off
+pub line_cut : (old mid new : Option Bytes) (seen : Observation) (end : End) (e : RunErr) → end ≡ seen.end → Ran old mid seen (Ok end) → PutAll {E = RunErr} mid new (last_line end) (Err e) → RanTo old new seen (Err e)
+line_cut None mid new seen end e end_is ran put = tt
+line_cut (Some o) mid new seen end e end_is ran put =
+    let from : PutAll {E = RunErr} (Some (o ++ seen.output)) new (last_line end) (Err e) = subst (λ (m : Option Bytes). PutAll {E = RunErr} m new (last_line end) (Err e)) ran put in
+    record {
+      added = seen.output ++ from.0;
+      rest = from.1.0;
+      is = ap (λ (l : Bytes). seen.output ++ l) (ap (λ (q : End). last_line q) (sym end_is) ∙ from.1.1) ∙ sym (append_assoc seen.output from.0 from.1.0);
+      written = from.1.2 ∙ ap (λ (l : Bytes). Some l) (append_assoc o seen.output from.0);
+    }
+
+-- a run of the program of a text
+runs_of : (bytes : Bytes) (items : List Item) (args : List Bytes) (turns : ℕ) → IsProgramText bytes items → TextRuns bytes args turns (cm items no_input args turns)
+runs_of bytes items args turns program = record { items = items; program = program; is = refl }
+
+pub text_ran : (old new : Option Bytes) (bytes : Bytes) (items : List Item) (args : List Bytes) (turns : ℕ) (end : End) → IsProgramText bytes items → RanTo old new (cm items no_input args turns) (Ok end) → TextRan old new bytes args turns (Ok end)
+text_ran None new bytes items args turns end program told = tt
+text_ran (Some o) new bytes items args turns end program told = (cm items no_input args turns, (runs_of bytes items args turns program, told.0, told.1))
+
+pub text_fault : (old new : Option Bytes) (bytes : Bytes) (items : List Item) (args : List Bytes) (turns : ℕ) (e : RunErr) → IsProgramText bytes items → RanTo old new (cm items no_input args turns) (Err e) → TextRan old new bytes args turns (Err WriteFault)
+text_fault None new bytes items args turns e program told = tt
+text_fault (Some o) new bytes items args turns e program told = (cm items no_input args turns, (runs_of bytes items args turns program, told))
+
+pub text_no_memory : (old new : Option Bytes) (bytes : Bytes) (items : List Item) (args : List Bytes) (turns : ℕ) (e : RunErr) → IsProgramText bytes items → RanTo old new (cm items no_input args turns) (Err e) → TextRan old new bytes args turns (Err Memory)
+text_no_memory None new bytes items args turns e program told = tt
+text_no_memory (Some o) new bytes items args turns e program told = inr (cm items no_input args turns, (runs_of bytes items args turns program, told))
+
+-- no program was loaded
+not_loaded : (old : Option Bytes) (bytes : Bytes) (args : List Bytes) (turns : ℕ) (h : Halt) → Loaded bytes (Err h) → TextRan old old bytes args turns (Err h)
+not_loaded None bytes args turns h told = tt
+not_loaded (Some o) bytes args turns (Refused r) told = (told.0, told.1, refl)
+not_loaded (Some o) bytes args turns Memory told = inl refl
+not_loaded (Some o) bytes args turns (NoFile n) told = absurd told
+not_loaded (Some o) bytes args turns (FileFault n) told = absurd told
+not_loaded (Some o) bytes args turns WriteFault told = absurd told
+
+pub text_not_loaded : (old : Option Bytes) (bytes : Bytes) (args : List Bytes) (turns : ℕ) (h : Halt) (r : Result End Halt) → Loaded bytes (Err h) → r ≡ Err h → TextRan old old bytes args turns r
+text_not_loaded old bytes args turns h r told is = subst (λ (x : Result End Halt). TextRan old old bytes args turns x) (sym is) (not_loaded old bytes args turns h told)
+
+-- Loading -----------------------------------------------------------------------------------
+
+pub not_read : (bytes : Bytes) (h : Halt) (r : Result CProgram Halt) → ProgramRead bytes (Err h) → r ≡ Err h → Loaded bytes r
+not_read bytes h r told is = subst (λ (x : Result CProgram Halt). Loaded bytes x) (sym is) (go h told)
+  where
+    go : (h : Halt) → ProgramRead bytes (Err h) → Loaded bytes (Err h)
+    go (Refused r) told = (told.0, λ items text checked. told.1 items text)
+    go Memory told = tt
+    go (NoFile n) told = absurd told
+    go (FileFault n) told = absurd told
+    go WriteFault told = absurd told
+
+pub not_checked : (bytes : Bytes) (items : List Item) → HasTree bytes items → (IsChecked items → ⊥) → NotRun bytes
+not_checked bytes items tree not = λ others text checked. not (subst (λ (l : List Item). IsChecked l) (tree.only others text) checked)

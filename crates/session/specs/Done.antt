@@ -1,0 +1,91 @@
+-- What the functions for each command answer.
+use Rattle.std.specs.Prelude.{◌≡◌, ◌⊎◌, ℕ, List, ◌++◌, Option, Some, None, Result, Ok, Err}
+use Rattle.base_io.specs.Contents.{Bytes}
+use Rattle.base_io.specs.Observation.{Observation}
+use Rattle.base_io.specs.declared.end.End.{End}
+use Rattle.base_io.specs.declared.end.RunErr.{RunErr}
+use Rattle.c_tree.specs.Code.{Item, items_of}
+use Rattle.c_tree.specs.Spelling.{CText}
+use Rattle.c_tree.specs.declared.tree.CProgram.{CProgram}
+use Rattle.c_machine.specs.Runs.{WrotePart}
+use Rattle.unit_compile.specs.Compilation.{Compiled}
+use Rattle.linker.specs.Links.{Linked}
+use Rattle.commands.specs.declared.command.Command.{Command}
+use Rattle.session.specs.declared.answer.Effect.{Effect}
+use Rattle.session.specs.declared.answer.Refusal.TheVariants.{NotBuilt}
+use Rattle.session.specs.declared.answer.Halt.{Halt}
+use Rattle.session.specs.declared.answer.Halt.TheVariants.{NoFile, FileFault, WriteFault, Refused, Memory}
+use Rattle.session.specs.Works.{Held, Gives, Refuses, MayAdd, IsProgramText, TextRuns, printed, NotCompiled, NotLinked, NotRun}
+
+abbrev pub CompileDid : Bytes → List Bytes → Result Bytes Halt → Type 0
+CompileDid source ifaces (Ok text) = Compiled source ifaces text
+CompileDid source ifaces (Err (Refused r)) = (r ≡ NotBuilt) × NotCompiled source ifaces
+CompileDid source ifaces (Err Memory) = Unit {0}
+CompileDid source ifaces (Err (NoFile n)) = ⊥
+CompileDid source ifaces (Err (FileFault n)) = ⊥
+CompileDid source ifaces (Err WriteFault) = ⊥
+
+abbrev pub LinkDid : List Bytes → Result Bytes Halt → Type 0
+LinkDid objects (Ok text) = Linked objects text
+LinkDid objects (Err (Refused r)) = (r ≡ NotBuilt) × NotLinked objects
+LinkDid objects (Err Memory) = Unit {0}
+LinkDid objects (Err (NoFile n)) = ⊥
+LinkDid objects (Err (FileFault n)) = ⊥
+LinkDid objects (Err WriteFault) = ⊥
+
+-- Runs --------------------------------------------------------------------------------------
+
+-- the one tree of a text
+pub record HasTree (bytes : Bytes) (items : List Item) : Type 0 where
+  pub text : CText bytes items
+  pub only : (others : List Item) → CText bytes others → others ≡ items
+
+abbrev pub ProgramRead : Bytes → Result CProgram Halt → Type 0
+ProgramRead bytes (Ok p) = HasTree bytes (items_of p.items)
+ProgramRead bytes (Err (Refused r)) = (r ≡ NotBuilt) × ((items : List Item) → CText bytes items → ⊥)
+ProgramRead bytes (Err Memory) = Unit {0}
+ProgramRead bytes (Err (NoFile n)) = ⊥
+ProgramRead bytes (Err (FileFault n)) = ⊥
+ProgramRead bytes (Err WriteFault) = ⊥
+
+abbrev pub Loaded : Bytes → Result CProgram Halt → Type 0
+Loaded bytes (Ok p) = IsProgramText bytes (items_of p.items)
+Loaded bytes (Err (Refused r)) = (r ≡ NotBuilt) × NotRun bytes
+Loaded bytes (Err Memory) = Unit {0}
+Loaded bytes (Err (NoFile n)) = ⊥
+Loaded bytes (Err (FileFault n)) = ⊥
+Loaded bytes (Err WriteFault) = ⊥
+
+-- where the sink tells: all that the run writes, or a part of it
+abbrev pub RanTo : Option Bytes → Option Bytes → Observation → Result End RunErr → Type 0
+RanTo None new seen result = Unit {0}
+RanTo (Some old) new seen (Ok end) = (end ≡ seen.end) × (new ≡ Some (old ++ printed seen))
+RanTo (Some old) new seen (Err e) = WrotePart old new (printed seen)
+
+-- a run that was cut off before or while it wrote
+abbrev pub CutRun : Bytes → Option Bytes → Bytes → List Bytes → ℕ → Type 0
+CutRun old new bytes args turns = (seen : Observation) × (TextRuns bytes args turns seen × WrotePart old new (printed seen))
+
+abbrev pub TextRan : Option Bytes → Option Bytes → Bytes → List Bytes → ℕ → Result End Halt → Type 0
+TextRan None new bytes args turns result = Unit {0}
+TextRan (Some old) new bytes args turns (Ok end) = (seen : Observation) × (TextRuns bytes args turns seen × (end ≡ seen.end) × (new ≡ Some (old ++ printed seen)))
+TextRan (Some old) new bytes args turns (Err (Refused r)) = (r ≡ NotBuilt) × NotRun bytes × (new ≡ Some old)
+TextRan (Some old) new bytes args turns (Err WriteFault) = CutRun old new bytes args turns
+TextRan (Some old) new bytes args turns (Err Memory) = (new ≡ Some old) ⊎ CutRun old new bytes args turns
+TextRan (Some old) new bytes args turns (Err (NoFile n)) = ⊥
+TextRan (Some old) new bytes args turns (Err (FileFault n)) = ⊥
+
+-- A command ---------------------------------------------------------------------------------
+
+abbrev pub Added : Command → List Held → Bytes → Option Bytes → Type 0
+Added c hs old new = (added : Bytes) × (MayAdd c hs added × (new ≡ Some (old ++ added)))
+
+-- where the sink tells: a command was done, refused or cut off
+unfoldable pub Performs : Command → List Held → Option Bytes → Option Bytes → Result Effect Halt → Type 0
+Performs c hs None new result = Unit {0}
+Performs c hs (Some old) new (Ok effect) = (added : Bytes) × (Gives c hs added effect × (new ≡ Some (old ++ added)))
+Performs c hs (Some old) new (Err (Refused r)) = Refuses c hs r × (new ≡ Some old)
+Performs c hs (Some old) new (Err WriteFault) = Added c hs old new
+Performs c hs (Some old) new (Err Memory) = Added c hs old new
+Performs c hs (Some old) new (Err (NoFile n)) = ⊥
+Performs c hs (Some old) new (Err (FileFault n)) = ⊥

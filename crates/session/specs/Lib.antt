@@ -1,0 +1,6 @@
+pub mod Done
+pub mod Messages
+pub mod Outside
+pub mod Scripts
+pub mod Steps
+pub mod Works

@@ -1,0 +1,187 @@
+-- What each command reads, writes, gives and refuses. A further command adds its equations here.
+use Rattle.std.specs.Prelude.{◌≡◌, ◌⊎◌, ℕ, List, [], ◌∷◌, ◌++◌, map, codes}
+use Rattle.scheme_data.specs.Decimal.{decimal_text}
+use Rattle.base_io.specs.Contents.{Bytes}
+use Rattle.base_io.specs.Observation.{Observation}
+use Rattle.base_io.specs.declared.end.End.{End}
+use Rattle.base_io.specs.declared.end.End.TheVariants.{Ended, Raised, Spent, Fault}
+use Rattle.core_tree.specs.Tree.{ModuleTree}
+use Rattle.meaning.specs.Program.{src}
+use Rattle.c_tree.specs.Code.{Item}
+use Rattle.c_tree.specs.Spelling.{CText}
+use Rattle.c_meaning.specs.Program.{cm}
+use Rattle.c_meaning.specs.Checked.{IsChecked}
+use Rattle.object_text.specs.Format.{ObjectTree, ObjectText}
+use Rattle.unit_compile.specs.Compilation.{IsModuleOf, Compiled}
+use Rattle.linker.specs.Links.{Linked}
+use Rattle.commands.specs.declared.command.Command.{Command}
+use Rattle.commands.specs.declared.command.Command.TheVariants.{Blank, Iface, Compile, Link, Run}
+use Rattle.session.specs.declared.answer.Refusal.{Refusal}
+use Rattle.session.specs.declared.answer.Refusal.TheVariants.{NotBuilt}
+use Rattle.session.specs.declared.answer.Effect.{Effect}
+use Rattle.session.specs.declared.answer.Effect.TheVariants.{Nothing, Wrote, Ran}
+
+-- What a name has ---------------------------------------------------------------------------
+
+-- what a script knows of a file: it was handed in, or holds the object or the program of a source
+pub data Kind : Type 0 where
+  as_given : Kind
+  as_object : Bytes → Kind
+  as_program : Bytes → Kind
+
+-- what was read, and what is known of it
+pub record Held : Type 0 where
+  pub bytes : Bytes
+  pub kind : Kind
+
+abbrev pub bytes_of : List Held → List Bytes
+bytes_of hs = map (λ h. h.bytes) hs
+
+-- a program of the source: for every input, arguments and number of turns it prints and ends as the source's module does by its plain meaning
+pub record MeansSource (source bytes : Bytes) : Type 0 where
+  pub items : List Item
+  pub text : CText bytes items
+  pub checked : IsChecked items
+  pub module_tree : ModuleTree
+  pub is_module : IsModuleOf source module_tree
+  pub same : (m : ModuleTree) → IsModuleOf source m → (input : Bytes) (args : List Bytes) (turns : ℕ) → cm items input args turns ≡ src m input args turns
+
+-- the bytes are as is known of them
+unfoldable pub Stands : Kind → Bytes → Type 0
+Stands as_given bytes = Unit {0}
+Stands (as_object source) bytes = Compiled source [] bytes
+Stands (as_program source) bytes = MeansSource source bytes
+
+abbrev pub AllStand : List Held → Type 0
+AllStand [] = Unit {0}
+AllStand (h ∷ hs) = Stands h.kind h.bytes × AllStand hs
+
+-- What a command reads and writes -----------------------------------------------------------
+
+-- the names that it reads, in the order of its words
+abbrev pub reads_of : Command → List Bytes
+reads_of Blank = []
+reads_of (Iface source out) = source ∷ []
+reads_of (Compile source out ifaces) = source ∷ ifaces
+reads_of (Link out objects) = objects
+reads_of (Run program turns args) = program ∷ []
+
+-- the name that it writes; no interface is written yet
+abbrev pub writes_of : Command → List Bytes
+writes_of Blank = []
+writes_of (Iface source out) = []
+writes_of (Compile source out ifaces) = out ∷ []
+writes_of (Link out objects) = out ∷ []
+writes_of (Run program turns args) = []
+
+abbrev pub kind_of_compiled : List Held → Kind
+kind_of_compiled [] = as_given
+kind_of_compiled (h ∷ hs) = as_object h.bytes
+
+abbrev pub kind_of_joined : Kind → Kind
+kind_of_joined as_given = as_given
+kind_of_joined (as_object source) = as_program source
+kind_of_joined (as_program source) = as_given
+
+abbrev pub kind_of_linked : List Held → Kind
+kind_of_linked [] = as_given
+kind_of_linked (h ∷ []) = kind_of_joined h.kind
+kind_of_linked (h ∷ next ∷ hs) = as_given
+
+-- what is then known of the name that it writes
+abbrev pub kind_of_work : Command → List Held → Kind
+kind_of_work Blank hs = as_given
+kind_of_work (Iface source out) hs = as_given
+kind_of_work (Compile source out ifaces) hs = kind_of_compiled hs
+kind_of_work (Link out objects) hs = kind_of_linked hs
+kind_of_work (Run program turns args) hs = as_given
+
+-- Runs --------------------------------------------------------------------------------------
+
+-- `error`, the code, the text
+abbrev pub error_line : ℕ → Bytes → Bytes
+error_line code text = codes "error " ++ decimal_text code ++ 32 ∷ [] ++ text ++ 10 ∷ []
+
+abbrev pub last_line : End → Bytes
+last_line (Ended status) = []
+last_line (Raised code text) = error_line code text
+last_line Spent = []
+last_line (Fault kind) = []
+
+-- all that a run writes
+abbrev pub printed : Observation → Bytes
+printed seen = seen.output ++ last_line seen.end
+
+-- the input of each run, since none is read yet
+abbrev pub no_input : Bytes
+no_input = []
+
+-- the bytes are the text of one program, which breaks no rule
+pub record IsProgramText (bytes : Bytes) (items : List Item) : Type 0 where
+  pub text : CText bytes items
+  pub checked : IsChecked items
+  pub only : (others : List Item) → CText bytes others → others ≡ items
+
+-- a run of what these bytes say
+pub record TextRuns (bytes : Bytes) (args : List Bytes) (turns : ℕ) (seen : Observation) : Type 0 where
+  pub items : List Item
+  pub program : IsProgramText bytes items
+  pub is : seen ≡ cm items no_input args turns
+
+-- a run of what the source's module means
+pub record SourceRuns (source : Bytes) (args : List Bytes) (turns : ℕ) (seen : Observation) : Type 0 where
+  pub module_tree : ModuleTree
+  pub is_module : IsModuleOf source module_tree
+  pub same : (m : ModuleTree) → IsModuleOf source m → seen ≡ src m no_input args turns
+
+-- a run of a source's program is by the source, and of all else by the bytes
+unfoldable pub RunMeans : Kind → Bytes → List Bytes → ℕ → Observation → Type 0
+RunMeans as_given bytes args turns seen = TextRuns bytes args turns seen
+RunMeans (as_object source) bytes args turns seen = TextRuns bytes args turns seen
+RunMeans (as_program source) bytes args turns seen = SourceRuns source args turns seen
+
+-- What a command gives ----------------------------------------------------------------------
+
+abbrev pub CompileGives : List Held → Bytes → Effect → Type 0
+CompileGives [] out effect = ⊥
+CompileGives (h ∷ hs) out effect = (text : Bytes) × ((effect ≡ Wrote out text) × Compiled h.bytes (bytes_of hs) text)
+
+abbrev pub LinkGives : List Held → Bytes → Effect → Type 0
+LinkGives hs out effect = (text : Bytes) × ((effect ≡ Wrote out text) × Linked (bytes_of hs) text)
+
+abbrev pub RunGives : List Held → List Bytes → ℕ → Bytes → Effect → Type 0
+RunGives [] args turns added effect = ⊥
+RunGives (h ∷ hs) args turns added effect = (seen : Observation) × (RunMeans h.kind h.bytes args turns seen × (added ≡ printed seen) × (effect ≡ Ran seen.end))
+
+-- with what was read for it, the command adds these bytes to the sink and has this effect; a program's arguments begin with its name
+unfoldable pub Gives : Command → List Held → Bytes → Effect → Type 0
+Gives Blank hs added effect = (added ≡ []) × (effect ≡ Nothing)
+Gives (Iface source out) hs added effect = ⊥
+Gives (Compile source out ifaces) hs added effect = (added ≡ []) × CompileGives hs out effect
+Gives (Link out objects) hs added effect = (added ≡ []) × LinkGives hs out effect
+Gives (Run program turns args) hs added effect = RunGives hs (program ∷ args) turns added effect
+
+-- bytes that a command that was cut off may have added: the first of those that it adds
+abbrev pub MayAdd : Command → List Held → Bytes → Type 0
+MayAdd command hs added = (added ≡ []) ⊎ ((rest : Bytes) × ((effect : Effect) × Gives command hs (added ++ rest) effect))
+
+-- What a command refuses --------------------------------------------------------------------
+
+abbrev pub NotCompiled : Bytes → List Bytes → Type 0
+NotCompiled source ifaces = (m : ModuleTree) → IsModuleOf source m → ifaces ≡ [] → ⊥
+
+abbrev pub NotLinked : List Bytes → Type 0
+NotLinked objects = (bytes : Bytes) (o : ObjectTree) → objects ≡ bytes ∷ [] → ObjectText bytes o → ⊥
+
+abbrev pub NotRun : Bytes → Type 0
+NotRun bytes = (items : List Item) → CText bytes items → IsChecked items → ⊥
+
+-- the command refuses what was read for it
+unfoldable pub Refuses : Command → List Held → Refusal → Type 0
+Refuses Blank hs refusal = ⊥
+Refuses (Iface source out) hs refusal = refusal ≡ NotBuilt
+Refuses (Compile source out ifaces) [] refusal = ⊥
+Refuses (Compile source out ifaces) (h ∷ hs) refusal = (refusal ≡ NotBuilt) × NotCompiled h.bytes (bytes_of hs)
+Refuses (Link out objects) hs refusal = (refusal ≡ NotBuilt) × NotLinked (bytes_of hs)
+Refuses (Run program turns args) [] refusal = ⊥
+Refuses (Run program turns args) (h ∷ hs) refusal = (refusal ≡ NotBuilt) × NotRun h.bytes

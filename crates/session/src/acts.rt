@@ -1,0 +1,97 @@
+// What each command does with what was read. A further command adds a function and an arm.
+ghost use Rattle.std.specs.Prelude.{◌≡◌, ◌≤◌, ◌<◌, ◌∷◌, List, length, IfOk, IsErrOf};
+ghost use Rattle.base_io.specs.Causes.{Rose};
+ghost use Rattle.base_io.specs.Contents.{Bytes};
+ghost use Rattle.session.specs.Works.{Held, AllStand, bytes_of, reads_of};
+ghost use Rattle.session.specs.Done.{CompileDid, LinkDid, Performs};
+
+use crate::answer::{Effect, Halt, Refusal};
+use crate::running::run;
+use base_io::Sink;
+use commands::{Command, copy_all};
+use linker::{LinkErr, link};
+use scheme_data::{OutOfMemory, Text, TextList};
+use std::alloc::Global;
+use unit_compile::{UnitErr, compile_unit};
+
+/// A list of one text and then others.
+fn text_and(alloc: Global, first: &Text, others: &[Text]) -> Result<TextList, OutOfMemory>
+    ensures { IfOk result (λ list. list ≡ first.now ∷ others.now) }
+{
+    let mut list = TextList::new(alloc);
+    list.push(first.copy(alloc)?)?;
+    for other in others {
+        list.push(other.copy(alloc)?)?;
+    }
+    Ok(list)
+}
+
+/// The names that a command reads, in order.
+pub fn names_read(alloc: Global, command: &Command) -> Result<TextList, OutOfMemory>
+    ensures { IfOk result (λ names. names ≡ reads_of command.now) }
+{
+    match command {
+        Command::Blank => Ok(TextList::new(alloc)),
+        Command::Iface(source, _) => text_and(alloc, source, &[]),
+        Command::Compile(source, _, ifaces) => text_and(alloc, source, ifaces.as_slice()),
+        Command::Link(_, objects) => copy_all(alloc, objects.as_slice()),
+        Command::Run(program, _, _) => text_and(alloc, program, &[]),
+    }
+}
+
+fn compile(alloc: Global, source: &[u8], ifaces: &TextList) -> Result<Text, Halt>
+    ensures told { CompileDid source.now ifaces.now result }
+    ensures no_file_fault { (n : Bytes) → IsErrOf result (Halt.FileFault n) → ⊥ }
+    ensures no_write_fault { IsErrOf result Halt.WriteFault → ⊥ }
+{
+    match compile_unit(alloc, source, ifaces) {
+        Ok(text) => Ok(text),
+        Err(UnitErr::NotBuilt) => Err(Halt::Refused(Refusal::NotBuilt)),
+        Err(UnitErr::Memory) => Err(Halt::Memory),
+    }
+}
+
+fn join(alloc: Global, objects: &TextList) -> Result<Text, Halt>
+    ensures told { LinkDid objects.now result }
+    ensures no_file_fault { (n : Bytes) → IsErrOf result (Halt.FileFault n) → ⊥ }
+    ensures no_write_fault { IsErrOf result Halt.WriteFault → ⊥ }
+{
+    match link(alloc, objects) {
+        Ok(text) => Ok(text),
+        Err(LinkErr::NotBuilt) => Err(Halt::Refused(Refusal::NotBuilt)),
+        Err(LinkErr::Memory) => Err(Halt::Memory),
+    }
+}
+
+/// Does a command with what was read for it.
+pub fn perform<K: Sink>(
+    alloc: Global,
+    command: &Command,
+    texts: &TextList,
+    out: &mut K,
+) -> Result<Effect, Halt>
+    requires { length texts.now ≡ length (reads_of command.now) }
+    ensures told { (hs : List Held) → bytes_of hs ≡ texts.now → AllStand hs → Performs command.now hs (K.written out.old) (K.written out.new) result }
+    ensures later { K.faults out.old ≤ K.faults out.new }
+    ensures fault { IsErrOf result Halt.WriteFault → Rose (K.faults out.old) (K.faults out.new) }
+    ensures no_file_fault { (n : Bytes) → IsErrOf result (Halt.FileFault n) → ⊥ }
+{
+    match command {
+        Command::Blank => Ok(Effect::Nothing),
+        Command::Iface(_, _) => Err(Halt::Refused(Refusal::NotBuilt)),
+        Command::Compile(_, name, _) => {
+            let ifaces = copy_all(alloc, &texts.as_slice()[1..])?;
+            let object = compile(alloc, texts.as_slice()[0].as_bytes(), &ifaces)?;
+            Ok(Effect::Wrote(name.copy(alloc)?, object))
+        }
+        Command::Link(name, _) => {
+            let program = join(alloc, texts)?;
+            Ok(Effect::Wrote(name.copy(alloc)?, program))
+        }
+        Command::Run(program, turns, args) => {
+            let words = text_and(alloc, program, args.as_slice())?;
+            let end = run(alloc, texts.as_slice()[0].as_bytes(), *turns, &words, out)?;
+            Ok(Effect::Ran(end))
+        }
+    }
+}

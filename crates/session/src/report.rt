@@ -1,0 +1,97 @@
+// What the program says of its answer: a status and one line.
+ghost use Rattle.std.specs.Prelude.{◌≡◌, ◌++◌, IfOk, OnOk};
+ghost use Rattle.scheme_data.specs.Decimal.{decimal_text};
+ghost use Rattle.session.specs.Messages.{status_of, end_status, message_of, line_words, refusal_words};
+
+use crate::answer::{Answer, Refusal};
+use base_io::End;
+use scheme_data::{LimitKind, OutOfMemory, Text, push_number};
+use std::alloc::Global;
+
+fn status_of_end(end: &End) -> u8
+    ensures { result ≡ end_status end.now }
+{
+    match end {
+        End::Ended(status) => *status,
+        End::Raised(_, _) => 250,
+        End::Spent => 251,
+        End::Fault(_) => 252,
+    }
+}
+
+/// The status that the program ends with: that of the last run, 0 where there was none, and from 240 on where not every line was done.
+pub fn status(answer: &Answer) -> u8
+    ensures { result ≡ status_of answer.now }
+{
+    match answer {
+        Answer::Done(ends) => match ends.as_slice().last() {
+            Some(end) => status_of_end(end),
+            None => 0,
+        },
+        Answer::Usage => 240,
+        Answer::BadLine(_) => 241,
+        Answer::NoFile(_) => 242,
+        Answer::FileFault(_) => 243,
+        Answer::ReadFault => 244,
+        Answer::InputLong => 245,
+        Answer::WriteFault => 246,
+        Answer::Refused(_, _) => 247,
+        Answer::Memory => 248,
+    }
+}
+
+// A number in decimal, of which the first digits are those of a tenth where it is too large for them all.
+fn push_decimal(text: &mut Text, n: u64) -> Result<(), OutOfMemory>
+    ensures { OnOk result (text.new ≡ text.old ++ decimal_text n) }
+{
+    if n < 9223372036854775808 {
+        return push_number(text, n as i64);
+    }
+    push_number(text, (n / 10) as i64)?;
+    text.push(48 + (n % 10) as u8)?;
+    Ok(())
+}
+
+fn line_text(alloc: Global, number: u64, rest: &[u8]) -> Result<Text, OutOfMemory>
+    ensures { IfOk result (λ text. text ≡ line_words number ++ rest.now) }
+{
+    let mut text = Text::from_bytes(alloc, b"line ")?;
+    push_decimal(&mut text, number)?;
+    text.extend(rest)?;
+    Ok(text)
+}
+
+fn name_text(alloc: Global, words: &[u8], name: &Text) -> Result<Text, OutOfMemory>
+    ensures { IfOk result (λ text. text ≡ words.now ++ name.now) }
+{
+    let mut text = Text::from_bytes(alloc, words)?;
+    text.extend(name.as_bytes())?;
+    Ok(text)
+}
+
+fn refusal_text(alloc: Global, number: u64, refusal: Refusal) -> Result<Text, OutOfMemory>
+    ensures { IfOk result (λ text. text ≡ line_words number ++ refusal_words refusal) }
+{
+    match refusal {
+        Refusal::NotBuilt => line_text(alloc, number, b": refusal 0"),
+        Refusal::Limit(LimitKind::Bytes) => line_text(alloc, number, b": refusal 2 Bytes"),
+    }
+}
+
+/// One line, without its end, on what kept the program from doing all; the empty text where it did all.
+pub fn message(alloc: Global, answer: &Answer) -> Result<Text, OutOfMemory>
+    ensures { IfOk result (λ text. text ≡ message_of answer.now) }
+{
+    match answer {
+        Answer::Done(_) => Ok(Text::new(alloc)),
+        Answer::Usage => Text::from_bytes(alloc, b"usage"),
+        Answer::BadLine(number) => line_text(alloc, *number, b": not a command"),
+        Answer::NoFile(name) => name_text(alloc, b"no file ", name),
+        Answer::FileFault(name) => name_text(alloc, b"file fault ", name),
+        Answer::ReadFault => Text::from_bytes(alloc, b"read fault"),
+        Answer::InputLong => Text::from_bytes(alloc, b"input too long"),
+        Answer::WriteFault => Text::from_bytes(alloc, b"write fault"),
+        Answer::Refused(number, refusal) => refusal_text(alloc, *number, *refusal),
+        Answer::Memory => Text::from_bytes(alloc, b"memory"),
+    }
+}

@@ -1,0 +1,110 @@
+// A run of a program's text.
+ghost use Rattle.std.specs.Prelude.{◌≡◌, ◌≤◌, ◌∷◌, IfOk, IsErrOf, OnErr};
+ghost use Rattle.base_io.specs.Causes.{Rose};
+ghost use Rattle.base_io.specs.Contents.{Bytes};
+ghost use Rattle.c_tree.specs.Code.{items_of};
+ghost use Rattle.c_meaning.specs.Program.{cm};
+ghost use Rattle.session.specs.Outside.{PutAll};
+ghost use Rattle.session.specs.Works.{error_line, last_line, no_input};
+ghost use Rattle.session.specs.Done.{ProgramRead, Loaded, RanTo, TextRan};
+
+use crate::answer::{Halt, Refusal};
+use crate::outside::put_all;
+use base_io::{End, Failed, RunErr, Sink};
+use c_check::{CheckErr, check};
+use c_machine::Machine;
+use c_read::{CReadErr, read_c};
+use c_tree::CProgram;
+use scheme_data::{OutOfMemory, Text, TextList, push_number};
+use std::alloc::Global;
+
+fn read_program(alloc: Global, text: &[u8]) -> Result<CProgram, Halt>
+    ensures told { ProgramRead text.now result }
+    ensures no_file_fault { (n : Bytes) → IsErrOf result (Halt.FileFault n) → ⊥ }
+    ensures no_write_fault { IsErrOf result Halt.WriteFault → ⊥ }
+{
+    match read_c(alloc, text) {
+        Ok(program) => Ok(program),
+        Err(CReadErr::NotC) => Err(Halt::Refused(Refusal::NotBuilt)),
+        Err(CReadErr::Memory) => Err(Halt::Memory),
+    }
+}
+
+/// A machine for the program of a text.
+fn load(alloc: Global, text: &[u8]) -> Result<Machine, Halt>
+    ensures told { Loaded text.now result }
+    ensures no_file_fault { (n : Bytes) → IsErrOf result (Halt.FileFault n) → ⊥ }
+    ensures no_write_fault { IsErrOf result Halt.WriteFault → ⊥ }
+{
+    let program = read_program(alloc, text)?;
+    match check(alloc, program) {
+        Ok(checked) => Ok(Machine::new(alloc, checked)?),
+        Err(CheckErr::NotChecked) => Err(Halt::Refused(Refusal::NotBuilt)),
+        Err(CheckErr::Memory) => Err(Halt::Memory),
+    }
+}
+
+fn error_text(alloc: Global, code: u8, text: &Text) -> Result<Text, OutOfMemory>
+    ensures { IfOk result (λ line. line ≡ error_line code text.now) }
+{
+    let mut line = Text::from_bytes(alloc, b"error ")?;
+    push_number(&mut line, code as i64)?;
+    line.push(32)?;
+    line.extend(text.as_bytes())?;
+    line.push(10)?;
+    Ok(line)
+}
+
+/// Writes the error line, where a run ended by an error.
+fn put_last_line<K: Sink>(alloc: Global, end: &End, out: &mut K) -> Result<(), RunErr>
+    ensures told { PutAll (K.written out.old) (K.written out.new) (last_line end.now) result }
+    ensures later { K.faults out.old ≤ K.faults out.new }
+    ensures fault { IsErrOf result RunErr.WriteFault → Rose (K.faults out.old) (K.faults out.new) }
+{
+    let End::Raised(code, text) = end else {
+        return Ok(());
+    };
+    let line = error_text(alloc, *code, text)?;
+    match put_all(out, line.as_bytes()) {
+        Ok(()) => Ok(()),
+        Err(Failed) => Err(RunErr::WriteFault),
+    }
+}
+
+/// Runs the machine, and writes all that the run writes.
+fn run_machine<K: Sink>(
+    alloc: Global,
+    machine: &mut Machine,
+    turns: u64,
+    args: &TextList,
+    out: &mut K,
+) -> Result<End, RunErr>
+    ensures told { RanTo (K.written out.old) (K.written out.new) (cm (items_of machine.old.items) no_input args.now turns) result }
+    ensures later { K.faults out.old ≤ K.faults out.new }
+    ensures fault { IsErrOf result RunErr.WriteFault → Rose (K.faults out.old) (K.faults out.new) }
+{
+    let end = machine.run(turns, &[], args, out)?;
+    put_last_line(alloc, &end, out)?;
+    Ok(end)
+}
+
+/// Runs the program of a text on the empty input.
+pub fn run<K: Sink>(
+    alloc: Global,
+    text: &[u8],
+    turns: u64,
+    args: &TextList,
+    out: &mut K,
+) -> Result<End, Halt>
+    ensures told { TextRan (K.written out.old) (K.written out.new) text.now args.now turns result }
+    ensures later { K.faults out.old ≤ K.faults out.new }
+    ensures fault { IsErrOf result Halt.WriteFault → Rose (K.faults out.old) (K.faults out.new) }
+    ensures no_file_fault { (n : Bytes) → IsErrOf result (Halt.FileFault n) → ⊥ }
+{
+    let mut machine = load(alloc, text)?;
+    match run_machine(alloc, &mut machine, turns, args, out) {
+        Ok(end) => Ok(end),
+        Err(RunErr::WriteFault) => Err(Halt::WriteFault),
+        Err(RunErr::Memory) => Err(Halt::Memory),
+    }
+}
