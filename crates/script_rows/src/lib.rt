@@ -1,0 +1,9 @@
+//! Whole scripts over memory: tests alone, as tables.
+#![tactic(auto)]
+
+#[cfg(test)]
+mod faults;
+#[cfg(test)]
+mod rows;
+#[cfg(test)]
+mod world;

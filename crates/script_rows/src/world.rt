@@ -1,0 +1,80 @@
+// A world in memory: files, an empty input, and room for some output.
+use base_io::{MemFiles, MemSink, MemSource};
+use scheme_data::{CallList, OutOfMemory, Text, TextList};
+use session::{Answer, bglc};
+use std::alloc::Global;
+
+/// The three lines of a whole script.
+pub const SCRIPT: &[u8] = b"compile h.scm h.o\nlink h.c h.o\nrun h.c 1\n";
+
+/// The objects that a script is handed.
+#[derive(Drop)]
+pub struct World {
+    pub alloc: Global,
+    pub files: MemFiles,
+    pub input: MemSource,
+    pub out: MemSink,
+}
+
+/// A list of these texts.
+pub fn texts(alloc: Global, items: &[&[u8]]) -> Result<TextList, OutOfMemory> {
+    let mut list = TextList::new(alloc);
+    for item in items {
+        list.push(Text::from_bytes(alloc, item)?)?;
+    }
+    Ok(list)
+}
+
+impl World {
+    /// A world with the files `h.scm` and `s`, whose call of this number fails; 0 for none.
+    pub fn new(
+        alloc: Global,
+        source: &[u8],
+        script: &[u8],
+        failing: u64,
+    ) -> Result<World, OutOfMemory> {
+        let mut fails = CallList::new(alloc);
+        fails.push(failing)?;
+        let mut files = MemFiles::new(alloc, fails);
+        files.place(
+            Text::from_bytes(alloc, b"h.scm")?,
+            Text::from_bytes(alloc, source)?,
+        )?;
+        files.place(
+            Text::from_bytes(alloc, b"s")?,
+            Text::from_bytes(alloc, script)?,
+        )?;
+        Ok(World {
+            alloc,
+            files,
+            input: MemSource::new(Text::new(alloc), CallList::new(alloc)),
+            out: MemSink::new(alloc, 10000, CallList::new(alloc))?,
+        })
+    }
+
+    /// Does what these words ask for.
+    pub fn does(&mut self, words: &[&[u8]]) -> Result<Answer, OutOfMemory> {
+        let words = texts(self.alloc, words)?;
+        Ok(bglc(
+            self.alloc,
+            words.as_slice(),
+            &mut self.files,
+            &mut self.input,
+            &mut self.out,
+        ))
+    }
+
+    /// Whether a file holds something.
+    pub fn has(&self, name: &[u8]) -> Result<bool, OutOfMemory> {
+        let name = Text::from_bytes(self.alloc, name)?;
+        Ok(self.files.content(&name).is_some())
+    }
+}
+
+/// The source whose main function has this body.
+pub fn source_of(alloc: Global, body: &[u8]) -> Result<Text, OutOfMemory> {
+    let mut text = Text::from_bytes(alloc, b"(module hello (main go)) (define (go args) ")?;
+    text.extend(body)?;
+    text.push(b')')?;
+    Ok(text)
+}
