@@ -1,0 +1,4 @@
+pub mod Joined
+pub mod Laid
+pub mod Sound
+pub mod Zeros
