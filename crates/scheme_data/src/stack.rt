@@ -1,4 +1,4 @@
-ghost use Rattle.std.specs.Prelude.{◌≡◌, [], ◌∷◌, length, MatchOption, OnOk, OnErr, ◌↔◌, IsTrue};
+ghost use Rattle.std.specs.Prelude.{◌≡◌, [], ◌∷◌, length, slice_get, Some, MatchOption, OnOk, OnErr, ◌↔◌, IsTrue};
 
 use crate::OutOfMemory;
 use std::alloc::Global;
@@ -43,6 +43,13 @@ impl<T> Stack<T> {
         ensures { IsTrue result ↔ (self.now ≡ []) }
     {
         self.items.is_empty()
+    }
+
+    /// The newest item.
+    pub fn top(&self) -> Option<&T>
+        ensures { MatchOption result (self.now ≡ []) (λ top. slice_get self.now 0 ≡ Some top.now) }
+    {
+        self.items.last()
     }
 
     /// Takes the newest item.

@@ -20,6 +20,7 @@ fn texts_lists_and_stacks_hold_what_is_pushed(rt: HostRuntime) -> Result<(), Out
     let mut stack = Stack::new(alloc);
     stack.push(1u8)?;
     stack.push(2u8)?;
+    assert!(rt; stack.top() == Some(&2));
     assert!(rt; stack.pop() == Some(2));
     Ok(())
 }
