@@ -1,0 +1,8 @@
+pub mod Comments
+pub mod Digits
+pub mod Hashes
+pub mod Lexemes
+pub mod Places
+pub mod Strings
+pub mod Tokens
+pub mod Words

@@ -1,0 +1,18 @@
+//! The tokens of a source text, each as long as possible, and their places.
+#![tactic(auto)]
+
+mod bytes;
+mod comments;
+mod hashes;
+mod lex;
+mod place;
+mod strings;
+mod token;
+mod words;
+
+pub use lex::{Lexeme, lexeme_at};
+pub use place::place_after;
+pub use token::{Atom, Token, Word};
+
+#[cfg(test)]
+mod tests;
