@@ -1,5 +1,9 @@
 pub mod Depth
-pub mod Digits
-pub mod Lexing
+pub mod Exact
+pub mod Kept
 pub mod Middle
 pub mod Pending
+pub mod Proper
+pub mod Rows
+pub mod Steps
+pub mod Views

@@ -1,4 +1,3 @@
 pub mod Answers
 pub mod Grammar
 pub mod Steps
-pub mod Tokens

@@ -1,77 +1,87 @@
 -- What each step of the reader does.
-use Rattle.std.specs.Prelude.{◌≡◌, ℕ, ℤ, List, [], ◌∷◌, ◌++◌, length, min, nat_eq, nat_lt, if◌then◌else◌, Option, Some, None, Result, Ok, Err}
-use Rattle.scheme_data.specs.Fixnum.{is_fixnum}
+use Rattle.std.specs.Prelude.{◌≡◌, ◌<◌, Bool, true, false, if◌then◌else◌, List, [], ◌∷◌, ◌++◌, length, Option, Some, None, Result, Ok, Err}
 use Rattle.scheme_data.specs.declared.datum.Place.{Place}
+use Rattle.scheme_data.specs.declared.datum.LimitKind.TheVariants.{Bytes, Depth}
 use Rattle.scheme_data.specs.declared.datum.Datum.{Datum}
 use Rattle.scheme_data.specs.declared.datum.Datum.TheVariants as datum
-use Rattle.scheme_read.specs.declared.token.Token.{Token}
-use Rattle.scheme_read.specs.declared.token.Word.{Word}
-use Rattle.scheme_read.specs.declared.token.Word.TheVariants as word
-use Rattle.scheme_read.specs.declared.lex.Scan.{Scan}
-use Rattle.scheme_read.specs.declared.lex.Scan.TheVariants as scan
+use Rattle.scheme_tokens.specs.declared.token.Token.{Token}
+use Rattle.scheme_tokens.specs.declared.token.Word.{Word}
+use Rattle.scheme_tokens.specs.declared.token.Word.TheVariants as word
 use Rattle.scheme_read.specs.declared.reader.Frame.{Frame}
+use Rattle.scheme_read.specs.declared.reader.Frame.TheVariants.{InList, AfterDot, AfterTail, InVector, AfterQuote}
 use Rattle.scheme_read.specs.declared.reader.Reader.{Reader}
-use Rattle.scheme_read.specs.declared.read.ReadErr.{ReadErr}
-use Rattle.scheme_read.specs.declared.read.ReadErr.TheVariants.{NotBuilt, Memory}
-use Rattle.scheme_read.specs.Tokens.{are_digits, digits_value, Lexeme, Gap, Lexed, lexeme}
-
--- Words -------------------------------------------------------------------------------------
-
--- the number that one or more digits spell, and 2^60 + 1 for all that are greater
-abbrev pub capped_digits : List ℕ → Option ℕ
-capped_digits ds = if are_digits ds then Some (min (digits_value 0 ds) 1152921504606846977) else None
-
-abbrev pub fixnum_or_bad : ℤ → Word
-fixnum_or_bad n = if is_fixnum n then word.Int n else word.Bad
-
-abbrev pub number_word : Option ℤ → Option Word
-number_word None = None
-number_word (Some n) = Some (fixnum_or_bad n)
-
--- Lexemes -----------------------------------------------------------------------------------
-
-abbrev pub lexeme_of : Scan → Lexeme
-lexeme_of scan.Space = Gap
-lexeme_of (scan.Token w size) = Lexed w size
-
--- what a byte is that is in no word
-abbrev pub mark_word : ℕ → Word
-mark_word b = if nat_eq b 40 then word.Open else (if nat_eq b 41 then word.Close else word.Bad)
-
-abbrev pub front_lexeme : List ℕ → Lexeme
-front_lexeme [] = Gap
-front_lexeme (b ∷ bs) = lexeme b bs
-
--- Tokens ------------------------------------------------------------------------------------
+use Rattle.scheme_read.specs.declared.error.ReadErr.{ReadErr}
+use Rattle.scheme_read.specs.declared.error.ReadErr.TheVariants.{Syntax, Limit, Memory}
+use Rattle.scheme_read.specs.Grammar.{simple, quoted, joined}
 
 abbrev pub reader : List Frame → List Datum → Reader
 reader stack done = record { stack = stack; done = done }
 
-abbrev pub frame : Place → List Datum → Frame
-frame at items = record { at = at; items = items }
-
 -- a datum is read whole
 abbrev pub feed : List Frame → List Datum → Datum → Reader
 feed [] done d = reader [] (done ++ d ∷ [])
-feed (f ∷ stack) done d = reader (frame f.at (f.items ++ d ∷ []) ∷ stack) done
+feed (InList at items ∷ stack) done d = reader (InList at (items ++ d ∷ []) ∷ stack) done
+feed (AfterDot at items ∷ stack) done d = reader (AfterTail at items d ∷ stack) done
+feed (AfterTail at items tail ∷ stack) done d = reader (AfterTail at items tail ∷ stack) done
+feed (InVector at items ∷ stack) done d = reader (InVector at (items ++ d ∷ []) ∷ stack) done
+feed (AfterQuote at ∷ stack) done d = feed stack done (quoted at d)
 
--- a list begins, within 200 others at most
-abbrev pub begin : List Frame → List Datum → Place → Option Reader
-begin stack done at = if nat_lt (length stack) 200 then Some (reader (frame at [] ∷ stack) done) else None
+-- whether a datum may begin
+abbrev pub takes_datum : List Frame → Bool
+takes_datum [] = true
+takes_datum (AfterTail at items tail ∷ stack) = false
+takes_datum (_ ∷ stack) = true
 
 abbrev pub close : List Frame → List Datum → Option Reader
 close [] done = None
-close (f ∷ stack) done = Some (feed stack done (datum.List f.at f.items))
+close (InList at items ∷ stack) done = Some (feed stack done (datum.List at items))
+close (AfterDot at items ∷ stack) done = None
+close (AfterTail at items tail ∷ stack) done = Some (feed stack done (joined at items tail))
+close (InVector at items ∷ stack) done = Some (feed stack done (datum.Vector at items))
+close (AfterQuote at ∷ stack) done = None
+
+abbrev pub point : List Frame → List Datum → Option Reader
+point (InList at (i ∷ items) ∷ stack) done = Some (reader (AfterDot at (i ∷ items) ∷ stack) done)
+point _ done = None
+
+abbrev pub when : Bool → Reader → Option Reader
+when b r = if b then Some r else None
 
 abbrev pub step : List Frame → List Datum → Place → Word → Option Reader
-step stack done at word.Open = begin stack done at
+step stack done at word.Open = when (takes_datum stack) (reader (InList at [] ∷ stack) done)
+step stack done at word.OpenVector = when (takes_datum stack) (reader (InVector at [] ∷ stack) done)
 step stack done at word.Close = close stack done
-step stack done at (word.Int n) = Some (feed stack done (datum.Int at n))
-step stack done at (word.Sym name) = Some (feed stack done (datum.Sym at name 0))
+step stack done at word.Quote = when (takes_datum stack) (reader (AfterQuote at ∷ stack) done)
+step stack done at word.Dot = point stack done
+step stack done at (word.Atom a) = when (takes_datum stack) (feed stack done (simple at a))
 step stack done at word.Bad = None
 
--- the reader took the token, or can't
+-- there is a next state, and more is open in it than may be
+pub record IsTooDeep (next : Option Reader) : Type 0 where
+  pub reached : Reader
+  pub next_is : next ≡ Some reached
+  pub begun : takes_datum reached.stack ≡ true
+  pub deep : 200 < length reached.stack
+
+-- the next state; or there is none, or it is too deep, and the place is that of the token
+abbrev pub Answers : Option Reader → Place → Result (Unit {0}) ReadErr → Reader → Type 0
+Answers next at (Ok u) new = next ≡ Some new
+Answers next at (Err (Syntax p)) new = (next ≡ None) × (p ≡ at)
+Answers next at (Err (Limit Bytes p)) new = ⊥
+Answers next at (Err (Limit Depth p)) new = IsTooDeep next × (p ≡ at)
+Answers next at (Err Memory) new = Unit {0}
+
+abbrev pub Began : Reader → Place → Frame → Result (Unit {0}) ReadErr → Reader → Type 0
+Began old at f result new = Answers (when (takes_datum old.stack) (reader (f ∷ old.stack) old.done)) at result new
+
+abbrev pub Closed : Reader → Place → Result (Unit {0}) ReadErr → Reader → Type 0
+Closed old at result new = Answers (close old.stack old.done) at result new
+
+abbrev pub Points : Reader → Place → Result (Unit {0}) ReadErr → Reader → Type 0
+Points old at result new = Answers (point old.stack old.done) at result new
+
+abbrev pub Fed : Reader → Place → Datum → Result (Unit {0}) ReadErr → Reader → Type 0
+Fed old at d result new = Answers (when (takes_datum old.stack) (feed old.stack old.done d)) at result new
+
 abbrev pub Took : Reader → Token → Result (Unit {0}) ReadErr → Reader → Type 0
-Took old t (Ok u) new = step old.stack old.done t.at t.word ≡ Some new
-Took old t (Err NotBuilt) new = step old.stack old.done t.at t.word ≡ None
-Took old t (Err Memory) new = Unit {0}
+Took old t result new = Answers (step old.stack old.done t.at t.word) t.at result new

@@ -1,14 +1,13 @@
 //! Reads the data of a source text.
 #![tactic(auto)]
 
-mod lex;
+mod error;
+mod join;
 mod read;
 mod reader;
-mod token;
-mod words;
 
-pub use read::{ReadErr, read_all};
-pub use token::{Token, Word};
+pub use error::ReadErr;
+pub use read::read_all;
 
 #[cfg(test)]
 mod tests;

@@ -1,104 +1,66 @@
 ghost use Rattle.std.specs.Prelude.{◌≡◌, ◌≤◌, List, length, IfOk};
-ghost use Rattle.scheme_data.specs.Data.{AreProper, plain_all};
+ghost use Rattle.scheme_data.specs.Data.{AreProper, deepest, plain_all};
 ghost use Rattle.scheme_data.specs.declared.datum.Datum.{Datum};
-ghost use Rattle.scheme_read.specs.Answers.{Reads, Gives, IsSource};
-ghost use Rattle.scheme_read.specs.Tokens.{next_number, place_after};
+ghost use Rattle.scheme_read.specs.declared.error.ReadErr.{ReadErr};
+ghost use Rattle.scheme_read.specs.Answers.{Reads, Gives, Refuses, IsSource, IsFault};
 
-use crate::lex::{Scan, scan_at};
+use crate::error::ReadErr;
 use crate::reader::Reader;
-use crate::token::Token;
-use scheme_data::{Datum, OutOfMemory, Place, Stack};
-use sqlite_items::Items;
+use scheme_data::{Datum, LimitKind, List, Place, Stack};
+use scheme_tokens::{Lexeme, Token, lexeme_at, place_after};
 use std::alloc::Global;
 
 /// How many bytes a source may have.
 const LONGEST: usize = 1_048_576;
 
-/// Why a text isn't read.
-#[derive(Clone, Copy, Debug, PartialEq, Eq)]
-pub enum ReadErr {
-    /// It isn't by the forms that are built.
-    NotBuilt,
-    /// Memory was wanted and not given.
-    Memory,
-}
+const START: Place = Place { line: 1, column: 1 };
 
-impl From<OutOfMemory> for ReadErr {
-    ghost use Rattle.scheme_read.specs.declared.read.ReadErr.TheVariants.{Memory};
-
-    ghost from_gives = { λ _ e. e ≡ Memory };
-
-    fn from(_: OutOfMemory) -> Self {
-        ReadErr::Memory
-    }
-}
-
-fn next(n: u32) -> u32
-    ensures { result ≡ next_number n }
-{
-    if n < u32::MAX { n + 1 } else { n }
-}
-
-fn after(at: Place, b: u8) -> Place
-    ensures { result ≡ place_after at b }
-{
-    if b == b'\n' {
-        Place {
-            line: next(at.line),
-            column: 1,
-        }
-    } else {
-        Place {
-            line: at.line,
-            column: next(at.column),
-        }
-    }
-}
-
-/// The data of a text of at most 1,048,576 bytes that nests at most 200 deep.
-pub fn read_all(alloc: Global, bytes: &[u8]) -> Result<Items<Datum>, ReadErr>
-    // What is read is spelled so, and of what is refused no data are.
+/// The data of a text of at most 1,048,576 bytes, with at most 200 openings in each other.
+pub fn read_all(alloc: Global, bytes: &[u8]) -> Result<List<Datum>, ReadErr>
+    // What is read is spelled so, and a refusal stands where the text is at fault.
     ensures answer { Reads bytes.now result }
-    // Its numbers are fixnums, and its symbols have a symbol's bytes.
+    // Its numbers are fixnums, its symbols have a symbol's bytes, and a dotted list ends in no list.
     ensures proper { IfOk result (λ ds. AreProper (plain_all ds)) }
+    ensures nesting { IfOk result (λ ds. deepest (plain_all ds) ≤ 200) }
     // What is spelled so is read, unless memory runs out.
     ensures given { (data_read : List Datum) → IsSource bytes.now data_read → Gives data_read result }
+    // What is at fault is refused for that and there, unless memory runs out.
+    ensures refused { (fault : ReadErr) → IsFault bytes.now fault → Refuses fault result }
 {
     if bytes.len() > LONGEST {
-        return Err(ReadErr::NotBuilt);
+        return Err(ReadErr::Limit(LimitKind::Bytes, START));
     }
     read(alloc, bytes)
 }
 
-fn read(alloc: Global, bytes: &[u8]) -> Result<Items<Datum>, ReadErr>
+fn read(alloc: Global, bytes: &[u8]) -> Result<List<Datum>, ReadErr>
     requires { length bytes.now ≤ 1048576 }
-    ensures answer { Reads bytes.now result }
-    ensures proper { IfOk result (λ ds. AreProper (plain_all ds)) }
+    ensures { Reads bytes.now result }
 {
     let mut reader = Reader {
         stack: Stack::new(alloc),
-        done: Items::new(alloc),
+        done: List::new(alloc),
     };
-    let mut place = Place { line: 1, column: 1 };
+    let mut place = START;
     let mut skip: usize = 0;
     for i in 0..bytes.len() {
         if skip > 0 {
             skip -= 1;
         } else {
-            match scan_at(alloc, &bytes[i..])? {
-                Scan::Space => {}
-                Scan::Token(word, more) => {
+            match lexeme_at(alloc, &bytes[i..])? {
+                Lexeme::Gap(size) => skip = size,
+                Lexeme::Token(word, size) => {
                     reader.step(alloc, Token { at: place, word })?;
-                    skip = more;
+                    skip = size;
                 }
             }
         }
-        place = after(place, bytes[i]);
+        place = place_after(place, bytes[i]);
     }
     let Reader { stack, done } = reader;
     if stack.is_empty() {
         Ok(done)
     } else {
-        Err(ReadErr::NotBuilt)
+        Err(ReadErr::Syntax(place))
     }
 }

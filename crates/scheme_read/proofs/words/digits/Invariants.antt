@@ -1,5 +1,0 @@
-use Rattle.scheme_read.proofs.Digits.{IsSoFar}
-use Rattle.scheme_read.proofs.words.digits.Given as goal
-
-abbrev pub invariant-loop-b : goal.invariant-loop-b
-invariant-loop-b l = IsSoFar l.text l.b-index l.n
