@@ -12,11 +12,20 @@ pub enum Const {
     Int(i64),
 }
 
+/// A function that is called by its name.
+#[derive(Clone, Copy, Debug, PartialEq, Eq)]
+pub enum GlobalRef {
+    /// A function of this module, by its number in source order from 0.
+    Own(u32),
+}
+
 /// An expression. A sequence has at least one part, and its value is that of the last.
 #[derive(Drop)]
 pub enum Node {
     Constant(Const),
+    Variable(VarId),
     Sequence(Items<Node>),
+    Call(GlobalRef, Items<Node>),
     Primitive(Primitive, Items<Node>),
 }
 
