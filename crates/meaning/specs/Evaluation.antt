@@ -1,9 +1,10 @@
 -- Evaluation (R5RS section 4): operator and arguments left to right, and one turn for each call of a user procedure.
-use Rattle.std.specs.Prelude.{ℕ, zero, suc, List, [], ◌∷◌, length, Option, Some, None, ℤ}
+use Rattle.std.specs.Prelude.{ℕ, zero, suc, List, [], ◌∷◌, length, Option, Some, None, if◌then◌else◌}
 use Rattle.core_tree.specs.declared.tree.Const.{Const}
 use Rattle.core_tree.specs.declared.tree.Const.TheVariants.{Int}
 use Rattle.core_tree.specs.declared.tree.VarId.{VarId}
-use Rattle.core_tree.specs.Tree.{Tree, Constant, Sequence, Primitive, Trees, none, more, FunctionTree}
+use Rattle.core_tree.specs.Tree.{Tree, Constant, Variable, Sequence, Call, Primitive, Trees, none, more, FunctionTree, function_of}
+use Rattle.core_tree.specs.WellFormed.{same_variable}
 use Rattle.meaning.specs.Value.{Value, Fixnum, Unspecified, State, Outcome, Gives, Spends, bind, take_turn}
 use Rattle.meaning.specs.Primitives.{primitive, counted}
 
@@ -20,18 +21,35 @@ bound (x ∷ xs) (v ∷ vs) env = (x, v) ∷ bound xs vs env
 bound [] vs env = env
 bound (x ∷ xs) [] env = env
 
+abbrev pub value_of : VarId → Environment → Option Value
+value_of x [] = None
+value_of x ((y, v) ∷ env) = if same_variable x y then Some v else value_of x env
+
+-- the variables of a well-formed module have values
+abbrev pub valued : Option Value → State → Outcome Value
+valued None s = Spends s
+valued (Some v) s = Gives v s
+
 -- a call of a function: the number of its arguments, a turn, the body
 abbrev pub apply : Lower → FunctionTree → List Value → State → Outcome Value
 apply lower f vs s = counted (length f.params) (length vs) s (take_turn s (λ s1. lower f.body (bound f.params vs []) s1))
 
+-- the functions that a well-formed module calls are there
+abbrev pub called : Lower → Option FunctionTree → List Value → State → Outcome Value
+called lower None vs s = Spends s
+called lower (Some f) vs s = apply lower f vs s
+
 abbrev pub constant : Const → Value
 constant (Int n) = Fixnum n
 
-module _ (lower : Lower) where
+-- The functions of the module, and what bodies do below.
+module _ (functions : List FunctionTree) (lower : Lower) where
   abbrev mutual
     pub ev : Tree → Environment → State → Outcome Value
     ev (Constant c) env s = Gives (constant c) s
+    ev (Variable x) env s = valued (value_of x env) s
     ev (Sequence ts) env s = ev_last ts Unspecified env s
+    ev (Call g ts) env s = bind (evs ts env s) (λ vs s1. called lower (function_of functions g) vs s1)
     ev (Primitive p ts) env s = bind (evs ts env s) (λ vs s1. primitive p vs s1)
 
     -- in order; the value of the last part
@@ -45,6 +63,6 @@ module _ (lower : Lower) where
     evs (more t ts) env s = bind (ev t env s) (λ v s1. bind (evs ts env s1) (λ vs s2. Gives (v ∷ vs) s2))
 
 -- with a bound that is at least the turns left
-abbrev pub run : ℕ → Lower
-run zero t env s = Spends s
-run (suc b) t env s = ev (run b) t env s
+abbrev pub run : List FunctionTree → ℕ → Lower
+run functions zero t env s = Spends s
+run functions (suc b) t env s = ev functions (run functions b) t env s

@@ -1,5 +1,5 @@
 -- What the primitives do: the number of arguments, then their types left to right, then the act (R5RS sections 6.2.5 and 6.6.3).
-use Rattle.std.specs.Prelude.{ℕ, ◌+◌, List, [], ◌∷◌, ◌++◌, length, codes, nat_eq, ℤ, ◌+ℤ◌, Bool, true, false, if◌then◌else◌}
+use Rattle.std.specs.Prelude.{ℕ, List, [], ◌∷◌, ◌++◌, length, codes, nat_eq, ℤ, ◌+ℤ◌, Bool, true, false, if◌then◌else◌}
 use Rattle.scheme_data.specs.Decimal.{decimal_text, number_text}
 use Rattle.scheme_data.specs.Fixnum.{is_fixnum}
 use Rattle.prim_table.specs.declared.primitives.Ty.{Ty}

@@ -1,13 +1,11 @@
 -- What a program prints, and how it ends.
-use Rattle.std.specs.Prelude.{◌≡◌, ℕ, zero, suc, List, [], ◌∷◌, find, nat_eq, nat_lt, Bool, ℤ, pos, negsuc, Option, Some, None, if◌then◌else◌}
-use Rattle.std.specs.Cmp.Lexicographic.{pointwise}
-use Rattle.base_io.specs.declared.end.End.{End}
+use Rattle.std.specs.Prelude.{◌≡◌, ℕ, suc, List, [], ◌∷◌, nat_lt, pos, negsuc, Option, Some, None, if◌then◌else◌}
 use Rattle.base_io.specs.Observation.{Observation}
 use Rattle.base_io.specs.declared.end.End.TheVariants.{Ended, Raised, Spent}
 use Rattle.core_tree.specs.declared.tree.VarId.{VarId}
-use Rattle.core_tree.specs.Tree.{FunctionTree, ModuleTree}
+use Rattle.core_tree.specs.Tree.{FunctionTree, ModuleTree, function_named}
 use Rattle.meaning.specs.Value.{Value, Fixnum, Empty, Unspecified, Object, Closure, State, Outcome, Gives, Escapes, Raises, Spends}
-use Rattle.meaning.specs.Evaluation.{apply, run}
+use Rattle.meaning.specs.Evaluation.{called, run}
 
 abbrev pub small : ℕ → ℕ
 small n = if nat_lt n 256 then n else 0
@@ -26,16 +24,10 @@ observed (Escapes x v s) = record { output = s.output; end = Raised 7 [] }
 observed (Raises c t s) = record { output = s.output; end = Raised c t }
 observed (Spends s) = record { output = s.output; end = Spent }
 
-abbrev pub is_called : List ℕ → FunctionTree → Bool
-is_called name f = pointwise nat_eq f.name name
-
-abbrev pub function_named : ModuleTree → List ℕ → Option FunctionTree
-function_named m name = find (is_called name) m.functions
-
 -- the function that `main` names
 abbrev pub main_of : ModuleTree → Option (List ℕ) → Option FunctionTree
 main_of m None = None
-main_of m (Some name) = function_named m name
+main_of m (Some name) = function_named m.functions name
 
 -- one procedure object for each top-level function, in source order
 abbrev pub procedures : ℕ → List FunctionTree → List Object
@@ -45,13 +37,12 @@ procedures n (f ∷ fs) = Closure n ∷ procedures (suc n) fs
 abbrev pub start : ModuleTree → List ℕ → ℕ → State
 start m input turns = record { store = procedures 0 m.functions; globals = []; output = []; input = input; turns = turns }
 
-abbrev pub run_main : Option FunctionTree → State → ℕ → Outcome Value
-run_main None s turns = Spends s
-run_main (Some f) s turns = apply (run turns) f (Empty ∷ []) s
+abbrev pub run_main : List FunctionTree → Option FunctionTree → State → ℕ → Outcome Value
+run_main functions main s turns = called (run functions turns) main (Empty ∷ []) s
 
 -- the main function is called with the list of argument strings, which no program of today's forms can look at: it stands as the empty list
 unfoldable pub src : ModuleTree → List ℕ → List (List ℕ) → ℕ → Observation
-src m input args turns = observed (run_main (main_of m m.main) (start m input turns) turns)
+src m input args turns = observed (run_main m.functions (main_of m m.main) (start m input turns) turns)
 
 -- a module that is a program by itself: its main is a function of one parameter
 pub record IsProgram (m : ModuleTree) : Type 0 where

@@ -5,7 +5,8 @@ use Rattle.base_io.specs.declared.end.End.TheVariants.{Ended, Raised, Spent}
 use Rattle.prim_table.specs.declared.primitives.Primitive.TheVariants.{Add, Display, Newline}
 use Rattle.core_tree.specs.declared.tree.Const.TheVariants.{Int}
 use Rattle.core_tree.specs.declared.tree.VarId.{VarId}
-use Rattle.core_tree.specs.Tree.{Tree, Constant, Sequence, Primitive, Trees, none, more, FunctionTree, ModuleTree}
+use Rattle.core_tree.specs.declared.tree.GlobalRef.TheVariants.{Own}
+use Rattle.core_tree.specs.Tree.{Tree, Constant, Variable, Sequence, Call, Primitive, Trees, none, more, FunctionTree, ModuleTree}
 use Rattle.scheme_data.specs.Decimal.{decimal_text}
 use Rattle.base_io.specs.Observation.{Observation}
 use Rattle.meaning.specs.Program.{src}
@@ -56,3 +57,48 @@ result_is_the_status = refl
 large_result_is_status_0 : src (program (more (int 256) none)) [] [] 1 ≡ observation [] (Ended 0)
 unfolding src decimal_text
 large_result_is_status_0 = refl
+
+-- Calls -------------------------------------------------------------------------------------
+
+abbrev pub variable : ℕ → Tree
+variable n = Variable (record { 0 = n })
+
+abbrev pub function : List ℕ → List VarId → Trees → FunctionTree
+function name params body = record { name = name; params = params; body = Sequence body }
+
+abbrev pub x : ℕ → VarId
+x n = record { 0 = n }
+
+-- a first function, and `(define (go args) ...)`
+abbrev pub calling : FunctionTree → Trees → ModuleTree
+calling f body = record { name = codes "t"; functions = f ∷ function (codes "go") (x 9 ∷ []) body ∷ []; main = Some (codes "go") }
+
+abbrev pub call_of : Trees → Tree
+call_of args = Call (Own 0) args
+
+-- `(define (f n) n)` and `(display (f))`
+wrong_number_is_error_2 : src (calling (function (codes "f") (x 0 ∷ []) (more (variable 0) none)) (more (shown (call_of none)) none)) [] [] 10 ≡ observation [] (Raised 2 (codes "1"))
+unfolding src decimal_text
+wrong_number_is_error_2 = refl
+
+-- `(define (f a b) (display a) (newline) b)`: the arguments come first, left to right
+abbrev pub second_of : ModuleTree
+second_of =
+    calling (function (codes "f") (x 0 ∷ x 1 ∷ []) (more (shown (variable 0)) (more line_end (more (variable 1) none))))
+    (more (shown (call_of (more (call_of (more (int 1) (more (int 2) none))) (more (call_of (more (int 3) (more (int 4) none))) none)))) none)
+
+arguments_are_evaluated_left_to_right : src second_of [] [] 4 ≡ observation (codes "1" ++ 10 ∷ codes "3" ++ 10 ∷ codes "2" ++ 10 ∷ codes "4") (Ended 0)
+unfolding src decimal_text
+arguments_are_evaluated_left_to_right = refl
+
+a_call_with_no_turn_left_is_spent : src second_of [] [] 3 ≡ observation (codes "1" ++ 10 ∷ codes "3" ++ 10 ∷ []) Spent
+unfolding src decimal_text
+a_call_with_no_turn_left_is_spent = refl
+
+-- `(define (f) (display 7) (f))` for ever
+abbrev pub endless : ModuleTree
+endless = calling (function (codes "f") [] (more (shown (int 7)) (more (call_of none) none))) (more (call_of none) none)
+
+a_call_for_ever_is_spent_exactly : src endless [] [] 5 ≡ observation (codes "7777") Spent
+unfolding src decimal_text
+a_call_for_ever_is_spent_exactly = refl
