@@ -1,5 +1,5 @@
 -- Checked programs: names are declared, distinct and agree, C types agree, and functions have their shapes.
-use Rattle.std.specs.Prelude.{ℕ, List, [], ◌∷◌, ◌++◌, map, codes, find, filter, nat_le, nat_lt, nat_eq, ℤ, pos, negsuc, Bool, true, false, not, ◌&&◌, ◌||◌, if◌then◌else◌, IsTrue, Option, Some, None}
+use Rattle.std.specs.Prelude.{ℕ, List, [], ◌∷◌, ◌++◌, map, find, filter, nat_le, nat_lt, ℤ, pos, negsuc, Bool, true, false, not, ◌&&◌, ◌||◌, if◌then◌else◌, IsTrue, Option, Some, None}
 use Rattle.std.specs.List.{list_all, list_any}
 use Rattle.scheme_data.specs.Fixnum.{is_fixnum}
 use Rattle.prim_table.specs.declared.primitives.Primitive.TheVariants.{Add, Display, Newline}
@@ -13,12 +13,11 @@ use Rattle.c_tree.specs.declared.tree.CArg.{CArg}
 use Rattle.c_tree.specs.declared.tree.CArg.TheVariants as arg
 use Rattle.c_tree.specs.declared.tree.Callee.{Callee}
 use Rattle.c_tree.specs.declared.tree.Callee.TheVariants as callee
-use Rattle.c_tree.specs.declared.tree.CCall.{CCall}
 use Rattle.c_tree.specs.declared.tree.CExpr.{CExpr}
 use Rattle.c_tree.specs.declared.tree.CExpr.TheVariants as expr
 use Rattle.c_tree.specs.declared.tree.CVar.{CVar}
 use Rattle.c_tree.specs.Code.{Code, done, assign, call, return, loop, Fun, Item, declared, defined}
-use Rattle.c_tree.specs.Names.{is_module_function, is_main}
+use Rattle.c_tree.specs.Names.{is_main}
 use Rattle.c_meaning.specs.Execution.{is_same}
 
 abbrev pub same_type : CTy → CTy → Bool
@@ -175,10 +174,10 @@ are_distinct (x ∷ xs) = not (list_any (is_same x) xs) && are_distinct xs
 abbrev pub variables_of : Fun → List CVar
 variables_of f = f.params ++ f.locals
 
--- the statements of a module's function are one labelled `for`, in which today no function is called
-abbrev pub is_looped : List CVar → CTy → Code → Bool
-is_looped vars result (loop l body done) = code_fits [] vars result body
-is_looped vars result _ = false
+-- the statements of a module's function are one labelled `for`
+abbrev pub is_looped : List Signature → List CVar → CTy → Code → Bool
+is_looped sigs vars result (loop l body done) = code_fits sigs vars result body
+is_looped sigs vars result _ = false
 
 -- `main` takes `void` and gives `int`, and calls functions that were declared before
 abbrev pub is_main_function : List Signature → Fun → Bool
@@ -187,7 +186,7 @@ is_main_function sigs f = (same_type f.result Int && same_types (map (λ v. v.ty
 abbrev pub function_fits : List Signature → Fun → Bool
 function_fits sigs f =
     are_distinct (map (λ v. v.name) (variables_of f))
-    && (if is_main f.name then is_main_function sigs f else is_looped (variables_of f) f.result f.code)
+    && (if is_main f.name then is_main_function sigs f else is_looped sigs (variables_of f) f.result f.code)
 
 -- what a function may call: what is declared before it and defined in the text, but not `main`
 abbrev pub callable : List (List ℕ) → List Signature → List Signature

@@ -1,19 +1,17 @@
 -- The meaning of C: big-step over statements. Each iteration of a labelled `for` first takes a turn.
-use Rattle.std.specs.Prelude.{ℕ, zero, suc, ◌+◌, List, [], ◌∷◌, ◌++◌, map, nat_eq, length, ℤ, pos, if◌then◌else◌, Bool, Option, Some, None, find}
+use Rattle.std.specs.Prelude.{ℕ, zero, suc, List, [], ◌∷◌, ◌++◌, map, nat_eq, if◌then◌else◌, Bool, Option, Some, None, find}
 use Rattle.std.specs.Cmp.Lexicographic.{pointwise}
-use Rattle.base_io.specs.declared.end.FaultKind.TheVariants.{Tag, Entry}
+use Rattle.base_io.specs.declared.end.FaultKind.TheVariants.{Entry}
 use Rattle.c_tree.specs.declared.tree.CAtom.{CAtom}
 use Rattle.c_tree.specs.declared.tree.CAtom.TheVariants as atoms
 use Rattle.c_tree.specs.declared.tree.CArg.{CArg}
 use Rattle.c_tree.specs.declared.tree.CArg.TheVariants as arg
 use Rattle.c_tree.specs.declared.tree.Callee.{Callee}
 use Rattle.c_tree.specs.declared.tree.Callee.TheVariants as callee
-use Rattle.c_tree.specs.declared.tree.CCall.{CCall}
 use Rattle.c_tree.specs.declared.tree.CExpr.{CExpr}
 use Rattle.c_tree.specs.declared.tree.CExpr.TheVariants as expr
-use Rattle.c_tree.specs.declared.tree.CVar.{CVar}
 use Rattle.c_tree.specs.Code.{Code, done, assign, call, return, loop, Fun}
-use Rattle.c_meaning.specs.Word.{Word, Fixnum, False, True, Nil, Unspec, Eof}
+use Rattle.c_meaning.specs.Word.{False, True, Nil, Unspec, Eof}
 use Rattle.c_meaning.specs.State.{Cell, AWord, ANumber, State, Frame, put, blank, frame_of, Answer, Has, Faults, Flow, Next, Goes, Returns, Escapes, Raises, Spends, Fails, with, after, answer, take_turn}
 use Rattle.c_meaning.specs.Operations.{Argument, ACell, AString, operate}
 

@@ -1,5 +1,5 @@
 -- The operations on cells. Of cells that no checked program gives them they make a fault.
-use Rattle.std.specs.Prelude.{ℕ, ◌+◌, List, [], ◌∷◌, ◌++◌, codes, nat_lt, ℤ, pos, negsuc, ◌+ℤ◌, if◌then◌else◌}
+use Rattle.std.specs.Prelude.{ℕ, List, [], ◌∷◌, ◌++◌, codes, nat_lt, ℤ, pos, negsuc, ◌+ℤ◌, if◌then◌else◌}
 use Rattle.scheme_data.specs.Fixnum.{is_fixnum}
 use Rattle.base_io.specs.declared.end.FaultKind.TheVariants.{Tag}
 use Rattle.prim_table.specs.declared.primitives.Primitive.{Primitive}

@@ -1,5 +1,5 @@
 -- What a C program prints, and how it ends.
-use Rattle.std.specs.Prelude.{ℕ, List, [], ◌∷◌, ◌++◌, codes, ℤ, pos, negsuc, Option, Some, None, map}
+use Rattle.std.specs.Prelude.{ℕ, List, [], ◌∷◌, codes, pos, negsuc, Option, Some, None}
 use Rattle.base_io.specs.declared.end.End.{End}
 use Rattle.base_io.specs.Observation.{Observation}
 use Rattle.base_io.specs.declared.end.End.TheVariants.{Ended, Raised, Spent, Fault}

@@ -9,17 +9,14 @@ use Rattle.c_tree.specs.declared.op.Op.{Op}
 use Rattle.c_tree.specs.declared.op.Op.TheVariants.{BoxLong, UnboxLong, Raise, Args, Status, Primitive as Does}
 use Rattle.c_tree.specs.declared.tree.CTy.{CTy}
 use Rattle.c_tree.specs.declared.tree.CTy.TheVariants.{Obj, Long, Int}
-use Rattle.c_tree.specs.declared.tree.CAtom.{CAtom}
 use Rattle.c_tree.specs.declared.tree.CAtom.TheVariants as atom
 use Rattle.c_tree.specs.declared.tree.CArg.{CArg}
 use Rattle.c_tree.specs.declared.tree.CArg.TheVariants as arg
 use Rattle.c_tree.specs.declared.tree.Callee.TheVariants as callee
 use Rattle.c_tree.specs.declared.tree.CCall.{CCall}
-use Rattle.c_tree.specs.declared.tree.CExpr.{CExpr}
 use Rattle.c_tree.specs.declared.tree.CExpr.TheVariants as expr
 use Rattle.c_tree.specs.declared.tree.CVar.{CVar}
-use Rattle.c_tree.specs.Code.{Code, done, assign, call, return, loop, Fun, Item, defined}
-use Rattle.c_tree.specs.Operations.{op_text}
+use Rattle.c_tree.specs.Code.{Code, done, assign, call, return, loop, Item, declared, defined}
 use Rattle.c_tree.specs.Names.{local_name, label_name, function_name}
 use Rattle.c_meaning.specs.Program.{cm}
 use Rattle.c_meaning.specs.Checked.{is_sound, is_checked}
@@ -111,3 +108,33 @@ undeclared_local_is_not = refl
 wrong_type_is_not : is_checked (go (var Obj 1 ∷ var Obj 2 ∷ []) (sum_shown 40 2) ∷ main ∷ []) ≡ false
 unfolding is_checked is_sound decimal_text local_name function_name label_name
 wrong_type_is_not = refl
+
+-- Calls -------------------------------------------------------------------------------------
+
+-- `for (;;) { bgl_p_newline(); x1 = f_hello__go(x0); return x1; }`
+abbrev pub calls_itself : Item
+calls_itself = go (var Obj 1 ∷ []) (call (operation (Does Newline) []) (assign (local_name 1) (expr.Call (function (x 0 ∷ []))) (return (expr.Atom (atom.Name (local_name 1))) done)))
+
+abbrev pub go_declared : Item
+go_declared = declared Obj (function_name (codes "hello") (codes "go")) (Obj ∷ [])
+
+calls_take_turns : cm (go_declared ∷ calls_itself ∷ main ∷ []) [] [] 3 ≡ observation (10 ∷ 10 ∷ 10 ∷ []) Spent
+unfolding cm decimal_text local_name function_name label_name
+calls_take_turns = refl
+
+-- a string is the text of the error
+raise_ends : cm (go [] (call (operation Raise (number 2 ∷ arg.Str (codes "1") ∷ [])) done) ∷ main ∷ []) [] [] 1 ≡ observation [] (Raised 2 (codes "1"))
+unfolding cm decimal_text local_name function_name label_name
+raise_ends = refl
+
+call_after_declaration_is_checked : is_checked (go_declared ∷ calls_itself ∷ main ∷ []) ≡ true
+unfolding is_checked is_sound decimal_text local_name function_name label_name
+call_after_declaration_is_checked = refl
+
+call_of_itself_without_declaration_is_not : is_checked (calls_itself ∷ main ∷ []) ≡ false
+unfolding is_checked is_sound decimal_text local_name function_name label_name
+call_of_itself_without_declaration_is_not = refl
+
+wrong_number_of_arguments_is_not : is_checked (go_declared ∷ go (var Obj 1 ∷ []) (assign (local_name 1) (expr.Call (function [])) done) ∷ main ∷ []) ≡ false
+unfolding is_checked is_sound decimal_text local_name function_name label_name
+wrong_number_of_arguments_is_not = refl

@@ -1,5 +1,5 @@
 -- The state of a run, frames, and how expressions and statements end.
-use Rattle.std.specs.Prelude.{ℕ, zero, suc, ◌==◌, List, [], ◌∷◌, ◌++◌, ℤ, pos, if◌then◌else◌, Option, Some, None, slice_get, slice_index, unwrap_or}
+use Rattle.std.specs.Prelude.{ℕ, zero, suc, ◌==◌, List, ℤ, pos, if◌then◌else◌, slice_get, unwrap_or}
 use Rattle.base_io.specs.declared.end.FaultKind.{FaultKind}
 use Rattle.base_io.specs.declared.end.FaultKind.TheVariants.{Tag}
 use Rattle.c_tree.specs.declared.tree.CTy.{CTy}

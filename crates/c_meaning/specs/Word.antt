@@ -1,5 +1,5 @@
 -- Words and their numbers. The low three bits of a word's number are its tag.
-use Rattle.std.specs.Prelude.{ℕ, ◌+◌, List, ℤ, codes}
+use Rattle.std.specs.Prelude.{ℕ, List, ℤ, codes}
 use Rattle.scheme_data.specs.Decimal.{number_text}
 use Rattle.scheme_data.specs.Fixnum.{fixnum_word}
 
