@@ -2,23 +2,16 @@
 use Rattle.std.specs.Prelude.{ℕ, List, [], ◌∷◌, ◌++◌, codes}
 use Rattle.c_tree.specs.declared.op.Op.TheVariants.{Args, Status}
 use Rattle.c_tree.specs.declared.tree.CTy.TheVariants.{Obj, Int}
-use Rattle.c_tree.specs.declared.tree.CArg.{CArg}
-use Rattle.c_tree.specs.declared.tree.Callee.TheVariants as callee
-use Rattle.c_tree.specs.declared.tree.CCall.{CCall}
 use Rattle.c_tree.specs.declared.tree.CExpr.TheVariants as expr
-use Rattle.c_tree.specs.declared.tree.CVar.{CVar}
-use Rattle.c_tree.specs.Code.{Code, done, assign, return, Item, defined}
+use Rattle.c_tree.specs.Code.{done, assign, return, Item, defined}
 use Rattle.c_tree.specs.Names.{function_name}
-use Rattle.plan_rules.specs.Representation.{operation, local}
+use Rattle.plan_rules.specs.Representation.{operation, call_of, local}
 
 abbrev pub first_local : List ℕ
 first_local = codes "x0"
 
 abbrev pub second_local : List ℕ
 second_local = codes "x1"
-
-abbrev pub call_of : List ℕ → List CArg → CCall
-call_of name args = record { callee = callee.Fun name; args = args }
 
 -- `int main(void) { obj x0; obj x1; x0 = bgl_args(); x1 = f(x0); return bgl_status(x1); }`
 abbrev pub main_item : List ℕ → Item

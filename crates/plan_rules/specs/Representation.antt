@@ -1,11 +1,14 @@
 -- Which representation a value has, and the statements that change it (after storage use analysis, Serrano and Feeley, ICFP 1996).
-use Rattle.std.specs.Prelude.{ℕ, List, [], ◌∷◌, ℤ}
+use Rattle.std.specs.Prelude.{ℕ, List, [], ◌∷◌, ℤ, pos, Option, Some, None, if◌then◌else◌}
+use Rattle.scheme_data.specs.Decimal.{decimal_text}
 use Rattle.prim_table.specs.declared.primitives.Ty.{Ty}
 use Rattle.prim_table.specs.declared.primitives.Ty.TheVariants as ty
 use Rattle.prim_table.specs.Table.{result_of}
-use Rattle.core_tree.specs.Tree.{Tree, Constant, Sequence, Primitive}
+use Rattle.core_tree.specs.declared.tree.VarId.{VarId}
+use Rattle.core_tree.specs.Tree.{Tree, Constant, Variable, Sequence, Call, Primitive}
+use Rattle.core_tree.specs.WellFormed.{same_variable}
 use Rattle.c_tree.specs.declared.op.Op.{Op}
-use Rattle.c_tree.specs.declared.op.Op.TheVariants.{BoxLong, UnboxLong}
+use Rattle.c_tree.specs.declared.op.Op.TheVariants.{BoxLong, UnboxLong, Raise}
 use Rattle.c_tree.specs.declared.tree.CTy.{CTy}
 use Rattle.c_tree.specs.declared.tree.CTy.TheVariants as c_ty
 use Rattle.c_tree.specs.declared.tree.CAtom.TheVariants as atom
@@ -26,14 +29,39 @@ abbrev pub c_type_of : Rep → CTy
 c_type_of Obj = c_ty.Obj
 c_type_of Long = c_ty.Long
 
+-- where a variable is: in a local of a representation
+pub data Slot : Type 0 where
+  PlainAt : Rep → List ℕ → Slot
+
+-- the variables in scope, newest first
+abbrev pub Scope : Type 0
+Scope = List (VarId × Slot)
+
+abbrev pub slot_of : VarId → Scope → Option Slot
+slot_of x [] = None
+slot_of x ((y, slot) ∷ scope) = if same_variable x y then Some slot else slot_of x scope
+
+abbrev pub rep_in : Option Slot → Rep
+rep_in None = Obj
+rep_in (Some (PlainAt r y)) = r
+
 -- the representation that a node gives its value, where one is wanted: a constant gives what is wanted
-abbrev pub has_of : Tree → Rep → Rep
-has_of (Constant c) wanted = wanted
-has_of (Sequence ts) wanted = Obj
-has_of (Primitive p ts) wanted = rep_of (result_of p)
+abbrev pub has_of : Scope → Tree → Rep → Rep
+has_of scope (Constant c) wanted = wanted
+has_of scope (Variable x) wanted = rep_in (slot_of x scope)
+has_of scope (Sequence ts) wanted = Obj
+has_of scope (Call g ts) wanted = Obj
+has_of scope (Primitive p ts) wanted = rep_of (result_of p)
 
 abbrev pub operation : Op → List CArg → CCall
 operation op args = record { callee = callee.Op op; args = args }
+
+-- `bgl_raise(2, "N")`, where N is the number of arguments that is wanted
+abbrev pub raise_count : ℕ → CCall
+raise_count n = operation Raise (arg.Atom (atom.Int (pos 2)) ∷ arg.Str (decimal_text n) ∷ [])
+
+abbrev pub call_of : List ℕ → List CArg → CCall
+call_of name args = record { callee = callee.Fun name; args = args }
 
 abbrev pub local : List ℕ → CArg
 local x = arg.Atom (atom.Name x)

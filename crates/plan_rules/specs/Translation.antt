@@ -1,25 +1,28 @@
 -- The relation between a module and a unit. Which locals are temporaries, and their names, are free.
 -- A node is related to the code and the code after it.
-use Rattle.std.specs.Prelude.{◌≡◌, ◌⊎◌, ℕ, List, [], ◌∷◌, ◌++◌, map, IsTrue, length}
+use Rattle.std.specs.Prelude.{◌≡◌, ◌⊎◌, ℕ, List, [], ◌∷◌, ◌++◌, map, IsTrue, length, nat_eq, Bool, true, false, Option, Some, None}
 use Rattle.prim_table.specs.declared.primitives.Ty.{Ty}
-use Rattle.prim_table.specs.declared.primitives.Primitive.{Primitive as Builtin}
+use Rattle.prim_table.specs.declared.primitives.Ty.TheVariants as ty
 use Rattle.prim_table.specs.Table.{params_of, result_of}
 use Rattle.core_tree.specs.declared.tree.Const.TheVariants.{Int}
-use Rattle.core_tree.specs.Tree.{Tree, Constant, Sequence, Primitive, Trees, none, more, FunctionTree, ModuleTree}
+use Rattle.core_tree.specs.declared.tree.VarId.{VarId}
+use Rattle.core_tree.specs.Tree.{Tree, Constant, Variable, Sequence, Call, Primitive, Trees, none, more, count, FunctionTree, ModuleTree, function_of}
 use Rattle.c_tree.specs.declared.op.Op.TheVariants.{BoxLong, Primitive as Does}
 use Rattle.c_tree.specs.declared.tree.CTy.{CTy}
 use Rattle.c_tree.specs.declared.tree.CTy.TheVariants as c_ty
 use Rattle.c_tree.specs.declared.tree.CArg.{CArg}
+use Rattle.c_tree.specs.declared.tree.CAtom.TheVariants as atom
+use Rattle.c_tree.specs.declared.tree.CCall.{CCall}
 use Rattle.c_tree.specs.declared.tree.CExpr.{CExpr}
 use Rattle.c_tree.specs.declared.tree.CExpr.TheVariants as expr
 use Rattle.c_tree.specs.declared.tree.CVar.{CVar}
 use Rattle.c_tree.specs.Code.{Code, done, assign, call, return, loop, Fun, Item, declared, defined}
 use Rattle.c_tree.specs.Names.{function_name}
 use Rattle.c_tree.specs.Spelling.{NamedItems}
-use Rattle.c_meaning.specs.Checked.{is_typed, variable_named, variables_of, are_distinct, is_sound}
+use Rattle.c_meaning.specs.Checked.{is_typed, variable_named, variables_of, is_sound}
 use Rattle.plan_rules.specs.declared.rep.Rep.{Rep}
 use Rattle.plan_rules.specs.declared.rep.Rep.TheVariants.{Obj, Long}
-use Rattle.plan_rules.specs.Representation.{rep_of, c_type_of, has_of, operation, local, fixnum_expr, Step, Keep, Make, step}
+use Rattle.plan_rules.specs.Representation.{Slot, PlainAt, Scope, slot_of, rep_of, c_type_of, has_of, operation, raise_count, call_of, local, fixnum_expr, Step, Keep, Make, step}
 
 abbrev pub Name : Type 0
 Name = List ℕ
@@ -120,70 +123,122 @@ module _ (vars : List CVar) where
     pub one : first middle
     pub all : others middle
 
-  -- how each argument's value comes
-  abbrev pub haves : List Ty → Trees → List Rep
-  haves [] none = []
-  haves (t ∷ ts) (more n ns) = has_of n (rep_of t) ∷ haves ts ns
-  haves [] (more n ns) = []
-  haves (t ∷ ts) none = []
+  -- arguments whose number is wrong are evaluated, and then error 2 is raised
+  pub record Miscounted (arguments : List Name → Code → Code → Type 0) (want : ℕ) (code rest : Code) : Type 0 where
+    pub temporaries : List Name
+    pub middle : Code
+    pub values : arguments temporaries code middle
+    pub is : middle ≡ call (raise_count want) rest
+
+-- How each argument's value comes.
+abbrev pub haves : Scope → List Ty → Trees → List Rep
+haves scope [] none = []
+haves scope (t ∷ ts) (more n ns) = has_of scope n (rep_of t) ∷ haves scope ts ns
+haves scope [] (more n ns) = []
+haves scope (t ∷ ts) none = []
+
+-- arguments of a function are words
+abbrev pub objects : Trees → List Ty
+objects none = []
+objects (more n ns) = ty.Obj ∷ objects ns
+
+abbrev pub is_counted : FunctionTree → Trees → Bool
+is_counted f ns = nat_eq (count ns) (length f.params)
+
+-- The module's name and functions, the variables in scope, and the locals of the function in which the statements stand.
+module _ (module_name : Name) (functions : List FunctionTree) (scope : Scope) (vars : List CVar) where
+  -- a variable's value goes to a place in its own representation
+  abbrev pub TrVariable : Option Slot → Rep → Statements
+  TrVariable None h place code rest = ⊥
+  TrVariable (Some (PlainAt r y)) h place code rest = (h ≡ r) × (code ≡ deliver place (expr.Atom (atom.Name y)) rest)
+
+  abbrev pub TrVariableUnused : Option Slot → Code → Code → Type 0
+  TrVariableUnused None code rest = ⊥
+  TrVariableUnused (Some slot) code rest = code ≡ rest
+
+  -- a call of a function of the module, where the number of arguments is right or not; `finish` does the call and what comes after
+  abbrev pub TrCounted : Bool → FunctionTree → (List Name → Code → Code → Type 0) → Trees → List Name → (CCall → Code) → Code → Code → Type 0
+  TrCounted true f arguments ns live finish code rest = Applied vars arguments (objects ns) (haves scope (objects ns) ns) live (λ args. finish (call_of (function_name module_name f.name) args)) code
+  TrCounted false f arguments ns live finish code rest = Miscounted vars arguments (length f.params) code rest
+
+  abbrev pub TrCall : Option FunctionTree → (List Name → Code → Code → Type 0) → Trees → List Name → (CCall → Code) → Code → Code → Type 0
+  TrCall None arguments ns live finish code rest = ⊥
+  TrCall (Some f) arguments ns live finish code rest = TrCounted (is_counted f ns) f arguments ns live finish code rest
 
   unfoldable mutual
     -- the node's value, in a representation, goes to a place
     pub Tr : Tree → Rep → List Name → Statements
     Tr (Constant (Int n)) h live place code rest = code ≡ deliver place (fixnum_expr h n) rest
+    Tr (Variable x) h live place code rest = TrVariable (slot_of x scope) h place code rest
     Tr (Sequence ts) h live place code rest = TrLast ts h live place code rest
+    Tr (Call g ns) h live place code rest =
+        (h ≡ Obj)
+        × TrCall (function_of functions g) (λ temporaries code middle. TrArguments (objects ns) ns live temporaries code middle) ns live (λ c. deliver place (expr.Call c) rest) code rest
     Tr (Primitive p ns) h live place code rest =
         (h ≡ rep_of (result_of p))
-        × Applied (λ temporaries code middle. TrArguments (params_of p) ns live temporaries code middle) (params_of p) (haves (params_of p) ns) live (λ args. deliver place (expr.Call (operation (Does p) args)) rest) code
+        × Applied vars (λ temporaries code middle. TrArguments (params_of p) ns live temporaries code middle) (params_of p) (haves scope (params_of p) ns) live (λ args. deliver place (expr.Call (operation (Does p) args)) rest) code
 
     -- nobody takes the node's value
     pub TrUnused : Tree → List Name → Code → Code → Type 0
     TrUnused (Constant c) live code rest = code ≡ rest
+    TrUnused (Variable x) live code rest = TrVariableUnused (slot_of x scope) code rest
     TrUnused (Sequence ts) live code rest = TrAllUnused ts live code rest
+    TrUnused (Call g ns) live code rest =
+        TrCall (function_of functions g) (λ temporaries code middle. TrArguments (objects ns) ns live temporaries code middle) ns live (λ c. call c rest) code rest
     TrUnused (Primitive p ns) live code rest =
-        Applied (λ temporaries code middle. TrArguments (params_of p) ns live temporaries code middle) (params_of p) (haves (params_of p) ns) live (λ args. call (operation (Does p) args) rest) code
+        Applied vars (λ temporaries code middle. TrArguments (params_of p) ns live temporaries code middle) (params_of p) (haves scope (params_of p) ns) live (λ args. call (operation (Does p) args) rest) code
 
     pub TrAllUnused : Trees → List Name → Code → Code → Type 0
     TrAllUnused none live code rest = code ≡ rest
-    TrAllUnused (more t ts) live code rest = Then (λ middle. TrUnused t live code middle) (λ middle. TrAllUnused ts live middle rest)
+    TrAllUnused (more t ts) live code rest = Then vars (λ middle. TrUnused t live code middle) (λ middle. TrAllUnused ts live middle rest)
 
     -- parts in order, the last to the place
     pub TrLast : Trees → Rep → List Name → Statements
     TrLast none h live place code rest = ⊥
-    TrLast (more t none) h live place code rest = Coerced (has_of t h) h (λ place code rest. Tr t (has_of t h) live place code rest) live place code rest
-    TrLast (more t (more u us)) h live place code rest = Then (λ middle. TrUnused t live code middle) (λ middle. TrLast (more u us) h live place middle rest)
+    TrLast (more t none) h live place code rest = Coerced vars (has_of scope t h) h (λ place code rest. Tr t (has_of scope t h) live place code rest) live place code rest
+    TrLast (more t (more u us)) h live place code rest = Then vars (λ middle. TrUnused t live code middle) (λ middle. TrLast (more u us) h live place middle rest)
 
     -- the arguments, left to right, each to a temporary of its own
     pub TrArguments : List Ty → Trees → List Name → List Name → Code → Code → Type 0
     TrArguments [] none live temporaries code rest = (temporaries ≡ []) × (code ≡ rest)
     TrArguments (t ∷ ts) (more n ns) live temporaries code rest =
-        Argument (λ place code rest. Tr n (has_of n (rep_of t)) live place code rest) (λ first others middle. TrArguments ts ns (first ∷ live) others middle rest) (has_of n (rep_of t)) live temporaries code
+        Argument vars (λ place code rest. Tr n (has_of scope n (rep_of t)) live place code rest) (λ first others middle. TrArguments ts ns (first ∷ live) others middle rest) (has_of scope n (rep_of t)) live temporaries code
     TrArguments [] (more n ns) live temporaries code rest = ⊥
     TrArguments (t ∷ ts) none live temporaries code rest = ⊥
 
 -- Functions ---------------------------------------------------------------------------------
 
-abbrev pub all_obj : List ℕ → List CTy
-all_obj [] = []
-all_obj (x ∷ xs) = c_ty.Obj ∷ all_obj xs
+-- each parameter is in the local of its place
+abbrev pub scope_of : List VarId → List CVar → Scope
+scope_of (x ∷ xs) (v ∷ vs) = (x, PlainAt Obj v.name) ∷ scope_of xs vs
+scope_of _ _ = []
 
 -- a function takes and gives words, and its statements are one loop around its body
-pub record TrFunction (module_name : Name) (f : FunctionTree) (g : Fun) : Type 0 where
+pub record TrFunction (module_name : Name) (functions : List FunctionTree) (f : FunctionTree) (g : Fun) : Type 0 where
   pub name : g.name ≡ function_name module_name f.name
   pub result : g.result ≡ c_ty.Obj
   pub params : map (λ v. v.ty) g.params ≡ map (λ _. c_ty.Obj) f.params
   pub label : Name
   pub body : Code
   pub looped : g.code ≡ loop label body done
-  pub translated : Tr (variables_of g) (Sequence (more f.body none)) Obj (map (λ v. v.name) g.params) back body done
+  pub translated : Tr module_name functions (scope_of f.params g.params) (variables_of g) (Sequence (more f.body none)) Obj (map (λ v. v.name) g.params) back body done
 
-abbrev pub TrFunctions : Name → List FunctionTree → List Item → Type 0
-TrFunctions m [] [] = Unit {0}
-TrFunctions m (f ∷ fs) (defined g ∷ is) = TrFunction m f g × TrFunctions m fs is
-TrFunctions m _ _ = ⊥
+-- the definitions, in order; the other items are declarations
+abbrev pub TrFunctions : Name → List FunctionTree → List FunctionTree → List Item → Type 0
+TrFunctions m functions fs (declared t name params ∷ is) = TrFunctions m functions fs is
+TrFunctions m functions [] [] = Unit {0}
+TrFunctions m functions (f ∷ fs) (defined g ∷ is) = TrFunction m functions f g × TrFunctions m functions fs is
+TrFunctions m functions _ _ = ⊥
 
--- the unit defines exactly the module's functions, and taken alone it has a spelling and breaks no rule of C
+-- what is declared is a function of the module
+abbrev pub AreOwn : Name → List FunctionTree → List Item → Type 0
+AreOwn m functions [] = Unit {0}
+AreOwn m functions (declared t name params ∷ is) = In name (map (λ f. function_name m f.name) functions) × AreOwn m functions is
+AreOwn m functions (defined g ∷ is) = AreOwn m functions is
+
+-- the unit declares functions of the module and defines each of them, and taken alone it has a spelling and breaks no rule of C
 pub record Translated (m : ModuleTree) (items : List Item) : Type 0 where
-  pub functions : TrFunctions m.name m.functions items
+  pub functions : TrFunctions m.name m.functions m.functions items
+  pub own : AreOwn m.name m.functions items
   pub named : NamedItems items
   pub sound : IsTrue (is_sound items)
