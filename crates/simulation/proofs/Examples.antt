@@ -1,128 +1,23 @@
--- Small modules and units that are translations, one for each kind of node, to see that the relation holds of what it should.
-use Rattle.std.proofs.Common.{rules, ◌≡◌, ℕ, List, [], ◌∷◌, Bool, true, false, Some, refl, sym, ap, ◌∙◌, inl, inr}
-use Rattle.std.specs.Prelude.{codes, pos, if◌then◌else◌}
+-- Small modules and units that are translations, one for each kind of node but calls, to see that the relation holds of what it should.
+use Rattle.std.proofs.Common.{rules, ◌≡◌, List, [], ◌∷◌, refl}
+use Rattle.std.specs.Prelude.{codes}
 use Rattle.base_io.specs.declared.end.End.TheVariants.{Ended, Raised}
 use Rattle.scheme_data.specs.Decimal.{decimal_text}
-use Rattle.prim_table.specs.declared.primitives.Ty.TheVariants as ty
-use Rattle.prim_table.specs.declared.primitives.Primitive.TheVariants.{Add, Display, Newline}
-use Rattle.core_tree.specs.declared.tree.Const.TheVariants.{Int}
-use Rattle.core_tree.specs.Tree.{Tree, Constant, Sequence, Primitive, none, more, ModuleTree}
-use Rattle.c_tree.specs.declared.op.Op.{Op}
-use Rattle.c_tree.specs.declared.op.Op.TheVariants.{BoxLong, UnboxLong, Primitive as Does}
-use Rattle.c_tree.specs.declared.tree.CTy.{CTy}
+use Rattle.prim_table.specs.declared.primitives.Primitive.TheVariants.{Display, Newline}
+use Rattle.core_tree.specs.Tree.{Tree, Sequence, none, more}
+use Rattle.c_tree.specs.declared.op.Op.TheVariants.{UnboxLong, Primitive as Does}
 use Rattle.c_tree.specs.declared.tree.CTy.TheVariants.{Obj, Long}
-use Rattle.c_tree.specs.declared.tree.CArg.{CArg}
-use Rattle.c_tree.specs.declared.tree.CArg.TheVariants as arg
-use Rattle.c_tree.specs.declared.tree.CAtom.TheVariants as atom
-use Rattle.c_tree.specs.declared.tree.CExpr.{CExpr}
-use Rattle.c_tree.specs.declared.tree.CExpr.TheVariants as expr
 use Rattle.c_tree.specs.declared.tree.CVar.{CVar}
-use Rattle.c_tree.specs.Code.{Code, done, assign, call, return, loop, Item, defined}
+use Rattle.c_tree.specs.Code.{Code, done, assign, call, return, Item}
 use Rattle.c_tree.specs.Names.{function_name, is_function_name, is_local_name, is_label_name}
-use Rattle.c_tree.specs.Spelling.{NamedItems}
-use Rattle.c_meaning.specs.Execution.{is_same}
 use Rattle.c_meaning.specs.Checked.{is_sound}
 use Rattle.c_meaning.specs.Program.{cm}
-use Rattle.plan_rules.specs.declared.rep.Rep.TheVariants as rep
 use Rattle.plan_rules.specs.Joined.{joined}
 use Rattle.plan_rules.specs.Representation.{operation, local}
-use Rattle.plan_rules.specs.Translation.{Name, Fresh, back, AllFit, Tr, TrUnused, TrAllUnused, TrLast, TrArguments, Translated}
+use Rattle.plan_rules.specs.Translation.{Tr, TrUnused, TrAllUnused, TrLast, TrArguments, Translated}
 use Rattle.simulation.specs.Law.{KeepsMeaning, IsFaithful}
+use Rattle.simulation.proofs.ExampleUnits.{fresh, int, sum_of, shown, line_end, variable, x0, x1, x2, x3, x4, x5, calls, var, plus, boxed, a_number, a_word, a_local, hello, unit, translated_so, kept_one, kept_two}
 use Rattle.simulation.proofs.Main.{keeps_meaning}
-use Rattle.simulation.proofs.Names.{same_test}
-
--- Side conditions ---------------------------------------------------------------------------
-
-abbrev absent : Name → List Name → Bool
-absent x [] = true
-absent x (y ∷ ys) = if is_same x y then false else absent x ys
-
-fresh : (x : Name) (xs : List Name) → absent x xs ≡ true → Fresh x xs
-fresh x [] e i = i
-fresh x (y ∷ ys) e (inl q) = let bad : false ≡ true = sym (ap (λ b. if b then false else absent x ys) (same_test x y q)) ∙ e in absurd (cc)
-fresh x (y ∷ ys) e (inr i) = fresh x ys (go (is_same x y) e) i
-  where
-    go : (b : Bool) → (if b then false else absent x ys) ≡ true → absent x ys ≡ true
-    go true e1 = absurd (cc)
-    go false e1 = e1
-
--- Modules and units -------------------------------------------------------------------------
-
-abbrev int : ℕ → Tree
-int n = Constant (Int (pos n))
-
-abbrev sum_of : Tree → Tree → Tree
-sum_of a b = Primitive Add (more a (more b none))
-
-abbrev shown : Tree → Tree
-shown t = Primitive Display (more t none)
-
-abbrev line_end : Tree
-line_end = Primitive Newline none
-
-abbrev x0 : Name
-x0 = codes "x0"
-
-abbrev x1 : Name
-x1 = codes "x1"
-
-abbrev x2 : Name
-x2 = codes "x2"
-
-abbrev x3 : Name
-x3 = codes "x3"
-
-abbrev x4 : Name
-x4 = codes "x4"
-
-abbrev x5 : Name
-x5 = codes "x5"
-
-abbrev number : ℕ → CArg
-number n = arg.Atom (atom.Int (pos n))
-
-abbrev calls : Op → List CArg → CExpr
-calls op args = expr.Call (operation op args)
-
-abbrev var : CTy → Name → CVar
-var t x = record { ty = t; name = x }
-
-abbrev plus : Name → Name → CExpr
-plus a b = calls (Does Add) (local a ∷ local b ∷ [])
-
-abbrev boxed : Name → CExpr
-boxed x = calls BoxLong (local x ∷ [])
-
-abbrev a_number : ℕ → CExpr
-a_number n = expr.Atom (atom.Int (pos n))
-
-abbrev a_word : ℕ → CExpr
-a_word n = calls BoxLong (number n ∷ [])
-
--- `(module hello (main go)) (define (go args) BODY)`
-abbrev hello : Tree → ModuleTree
-hello body = record { name = codes "hello"; functions = record { name = codes "go"; params = record { 0 = 0 } ∷ []; body = body } ∷ []; main = Some (codes "go") }
-
--- `obj f_hello__go(obj x0) { LOCALS L0: for (;;) { CODE } }`
-abbrev unit : List CVar → Code → List Item
-unit locals code = defined (record {
-  result = Obj;
-  name = function_name (codes "hello") (codes "go");
-  params = var Obj x0 ∷ [];
-  locals = locals;
-  code = loop (codes "L0") code done;
-}) ∷ []
-
-translated_so : (locals : List CVar) (body : Tree) (code : Code) → Tr (var Obj x0 ∷ locals) (Sequence (more body none)) rep.Obj (x0 ∷ []) back code done → NamedItems (unit locals code) → is_sound (unit locals code) ≡ true → Translated (hello body) (unit locals code)
-translated_so locals body code tr named sound =
-    record { functions = (record { name = refl; result = refl; params = refl; label = _; body = code; looped = refl; translated = tr }, tt); named = named; sound = sound }
-
--- arguments that fit as they are
-kept_one : (vars : List CVar) (a : Name) (live : List Name) (code : Code) → AllFit vars (ty.Obj ∷ []) (rep.Obj ∷ []) (a ∷ []) live code (a ∷ []) code
-kept_one vars a live code = record { first = a; rest = []; middle = code; are = refl; fits = (refl, refl); all = (refl, refl) }
-
-kept_two : (vars : List CVar) (a b : Name) (live : List Name) (code : Code) → AllFit vars (ty.Long ∷ ty.Long ∷ []) (rep.Long ∷ rep.Long ∷ []) (a ∷ b ∷ []) live code (a ∷ b ∷ []) code
-kept_two vars a b live code = record { first = a; rest = b ∷ []; middle = code; are = refl; fits = (refl, refl); all = record { first = b; rest = []; middle = code; are = refl; fits = (refl, refl); all = (refl, refl) } }
 
 -- Nodes -------------------------------------------------------------------------------------
 
@@ -354,6 +249,38 @@ nested_sequence = translated_so nested_locals nested nested_code
       all = (refl, record { temporaries = []; made = []; middle = _; last = _; is = refl; values = (refl, refl); fit = (refl, refl) });
     })
     (search rules) refl
+
+-- Parameters --------------------------------------------------------------------------------
+
+-- A parameter as the function's result
+parameter_result : Translated (hello (variable 0)) (unit [] (return (a_local x0) done))
+unfolding Tr TrUnused TrAllUnused TrLast TrArguments is_sound function_name is_function_name is_local_name is_label_name
+parameter_result = translated_so [] (variable 0) _ (refl, refl) (search rules) refl
+
+-- A parameter as an argument: its word goes to a temporary
+abbrev copied_code : Code
+copied_code = assign x1 (a_local x0) (return (calls (Does Display) (local x1 ∷ [])) done)
+
+parameter_shown : Translated (hello (shown (variable 0))) (unit (var Obj x1 ∷ []) copied_code)
+unfolding Tr TrUnused TrAllUnused TrLast TrArguments is_sound function_name is_function_name is_local_name is_label_name
+parameter_shown = translated_so (var Obj x1 ∷ []) (shown (variable 0)) copied_code (
+  refl,
+  record {
+    temporaries = x1 ∷ [];
+    made = x1 ∷ [];
+    middle = _;
+    last = _;
+    is = refl;
+    values = record { first = x1; rest = []; middle = _; are = refl; fresh = fresh x1 (x0 ∷ []) refl; is_local = refl; given = (refl, refl); all = (refl, refl) };
+    fit = kept_one _ x1 (x1 ∷ x0 ∷ []) _;
+  },
+)
+    (search rules) refl
+
+-- A parameter that nobody takes has no statement
+parameter_unused : Translated (hello (Sequence (more (variable 0) (more (int 0) none)))) (unit [] (return (a_word 0) done))
+unfolding Tr TrUnused TrAllUnused TrLast TrArguments is_sound function_name is_function_name is_local_name is_label_name
+parameter_unused = translated_so [] (Sequence (more (variable 0) (more (int 0) none))) _ (record { middle = _; one = refl; all = refl }) (search rules) refl
 
 -- Linked programs ---------------------------------------------------------------------------
 

@@ -1,6 +1,10 @@
+pub mod Arguments
+pub mod CallExamples
+pub mod Callees
 pub mod Calls
 pub mod Checked
 pub mod Ends
+pub mod ExampleUnits
 pub mod Examples
 pub mod Fits
 pub mod Found
@@ -9,4 +13,8 @@ pub mod Main
 pub mod Names
 pub mod Nodes
 pub mod Primitives
+pub mod Restored
+pub mod Scopes
+pub mod Signatures
+pub mod Variables
 pub mod Worlds

@@ -42,6 +42,11 @@ IsRep world Long v c = LongCell v c
 pub rep_moves : (world : World) (r : Rep) (v : Value) (a b : Cell) → b ≡ a → IsRep world r v a → IsRep world r v b
 rep_moves world r v a b e h = subst (λ c. IsRep world r v c) (sym e) h
 
+-- values as words, in cells
+pub data Words (world : World) : List Value → List Cell → Type 0 where
+  no_words : Words world [] []
+  a_word : {v : Value} {c : Cell} {vs : List Value} {cs : List Cell} → ObjCell world v c → Words world vs cs → Words world (v ∷ vs) (c ∷ cs)
+
 -- Worlds ------------------------------------------------------------------------------------
 
 pub record Grows (world later : World) : Type 0 where
