@@ -75,8 +75,21 @@ module _ (a b : List Signature) (alike : (name : List ℕ) → signature_named a
   code_fits-alike vars t (return e rest) = λ i. expr_fits-alike vars e t i && code_fits-alike vars t rest i
   code_fits-alike vars t (loop l body rest) = refl
 
+  is_looped-alike : (vars : List CVar) (t : CTy) (c : Code) → is_looped a vars t c ≡ is_looped b vars t c
+  is_looped-alike vars t (loop l body done) = code_fits-alike vars t body
+  is_looped-alike vars t (loop l body (assign x e rest)) = refl
+  is_looped-alike vars t (loop l body (call c rest)) = refl
+  is_looped-alike vars t (loop l body (return e rest)) = refl
+  is_looped-alike vars t (loop l body (loop k inner rest)) = refl
+  is_looped-alike vars t done = refl
+  is_looped-alike vars t (assign x e rest) = refl
+  is_looped-alike vars t (call c rest) = refl
+  is_looped-alike vars t (return e rest) = refl
+
   function_fits-alike : (f : Fun) → function_fits a f ≡ function_fits b f
-  function_fits-alike f = ap (λ c. are_distinct (map (λ v. v.name) (variables_of f)) && (if is_main f.name then ((same_type f.result Int && same_types (map (λ v. v.ty) f.params) []) && (c && returns_last f.code)) else is_looped (variables_of f) f.result f.code)) (code_fits-alike f.locals Int f.code)
+  function_fits-alike f =
+      λ i. are_distinct (map (λ v. v.name) (variables_of f))
+      && (if is_main f.name then ((same_type f.result Int && same_types (map (λ v. v.ty) f.params) []) && (code_fits-alike f.locals Int f.code i && returns_last f.code)) else is_looped-alike (variables_of f) f.result f.code i)
 
 module _ (a b : List Signature) (alike : (name : List ℕ) → signature_named a name ≡ signature_named b name) where
   callable-alike : (names : List (List ℕ)) (name : List ℕ) → signature_named (callable names a) name ≡ signature_named (callable names b) name

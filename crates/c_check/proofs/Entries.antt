@@ -1,5 +1,5 @@
 -- What a look-up in a table's entries gives.
-use Rattle.std.proofs.Common.{◌≡◌, ℕ, Bool, true, false, not, ◌||◌, cond, List, [], ◌∷◌, ◌++◌, map, Option, Some, None, is_some, nat_eq, refl, sym, ap, ◌∙◌, true≢false}
+use Rattle.std.proofs.Common.{◌≡◌, ℕ, Bool, true, false, ◌||◌, cond, List, [], ◌∷◌, ◌++◌, Option, Some, None, is_some, nat_eq, refl, sym, ap, ◌∙◌, true≢false}
 use Rattle.std.proofs.lemmas.List.{map-append}
 use Rattle.std.specs.Option.{option_map}
 use Rattle.std.specs.Map.{lookup}
@@ -8,7 +8,7 @@ use Rattle.std.specs.Global.{Vec}
 use Rattle.c_tree.specs.declared.tree.CTy.{CTy}
 use Rattle.c_tree.specs.declared.tree.CVar.{CVar}
 use Rattle.c_meaning.specs.Execution.{is_same}
-use Rattle.c_meaning.specs.Checked.{Signature, signature_named, variable_named}
+use Rattle.c_meaning.specs.Checked.{signature_named, variable_named}
 use Rattle.c_check.specs.Entries.{variable_of_entry, variables_of_entries, signature_of_entry, signatures_of_entries}
 use Rattle.c_check.specs.Signatures.{signed}
 use Rattle.c_check.specs.Variables.{has_variable, type_of, type_named}

@@ -1,5 +1,5 @@
 -- Names that are new one after another are distinct.
-use Rattle.std.proofs.Common.{◌≡◌, ℕ, ◌+◌, ◌<◌, Bool, true, false, not, ◌&&◌, ◌||◌, List, [], ◌∷◌, ◌++◌, length, drop, map, Option, Some, None, refl, sym, ap, ◌∙◌, arith, append_assoc}
+use Rattle.std.proofs.Common.{◌≡◌, ℕ, ◌+◌, Bool, true, false, not, ◌&&◌, ◌||◌, List, [], ◌∷◌, ◌++◌, length, drop, Some, refl, sym, ap, ◌∙◌, arith, append_assoc}
 use Rattle.std.proofs.lemmas.List.{drop_all, map-append}
 use Rattle.std.proofs.lemmas.List.Folds.{list_any-append}
 use Rattle.std.specs.List.{list_all, list_any}
@@ -11,7 +11,7 @@ use Rattle.c_meaning.specs.Execution.{is_same}
 use Rattle.c_meaning.specs.Checked.{defined_names, are_distinct}
 use Rattle.name_table.specs.Names.{has_name}
 use Rattle.c_check.specs.Names.{are_fresh}
-use Rattle.c_check.specs.Variables.{names_of, MakesVariables}
+use Rattle.c_check.specs.Variables.{names_of}
 use Rattle.c_check.specs.Programs.{MakesNames}
 
 -- none of the names was seen

@@ -1,12 +1,12 @@
 -- Items that fit after each other, where the first signature of each name is kept.
-use Rattle.std.proofs.Common.{◌≡◌, ℕ, ◌+◌, ◌<◌, Bool, true, false, not, ◌&&◌, ◌||◌, List, [], ◌∷◌, ◌++◌, length, drop, map, Option, Some, None, refl, sym, ap, ◌∙◌, arith, codes, nat_eq}
+use Rattle.std.proofs.Common.{◌≡◌, ℕ, ◌+◌, Bool, true, false, ◌&&◌, ◌||◌, List, [], ◌∷◌, length, drop, refl, sym, ap, ◌∙◌, arith, codes}
 use Rattle.std.proofs.lemmas.List.{drop_all}
 use Rattle.std.specs.List.{list_any}
-use Rattle.std.specs.Cmp.Lexicographic.{pointwise, nat_list_eq_equiv}
+use Rattle.std.specs.Cmp.Lexicographic.{nat_list_eq_equiv}
 use Rattle.c_tree.specs.declared.tree.CItem.{CItem}
-use Rattle.c_tree.specs.Code.{Item, declared, defined, item_of, items_of}
+use Rattle.c_tree.specs.Code.{Item, item_of, items_of}
 use Rattle.c_tree.specs.Names.{is_main}
-use Rattle.c_meaning.specs.Checked.{Signature, signature_of, signature_named, agrees, item_fits, items_fit, defined_names, are_distinct, is_sound, is_checked}
+use Rattle.c_meaning.specs.Checked.{Signature, signature_of, signature_named, item_fits, items_fit, defined_names, are_distinct, is_sound, is_checked}
 use Rattle.name_table.specs.Names.{has_name}
 use Rattle.c_check.specs.Signatures.{agrees_with, with_signature}
 use Rattle.c_check.proofs.Tables.{IsTableOf, no_signatures, with_one_more}

@@ -1,5 +1,5 @@
 -- Arguments and statements that fit one after another.
-use Rattle.std.proofs.Common.{◌≡◌, ◌≢◌, ℕ, suc, ◌+◌, ◌-◌, ◌<◌, Bool, true, false, ◌&&◌, List, [], ◌∷◌, length, drop, map, Option, Some, None, refl, sym, ap, ◌∙◌, arith, slice_get}
+use Rattle.std.proofs.Common.{◌≡◌, ◌≢◌, ℕ, suc, ◌+◌, ◌-◌, Bool, true, false, ◌&&◌, List, [], ◌∷◌, length, drop, map, Option, Some, None, refl, sym, ap, ◌∙◌, arith, slice_get}
 use Rattle.std.proofs.lemmas.List.{drop_all}
 use Rattle.c_tree.specs.declared.op.Op.TheVariants.{Raise}
 use Rattle.c_tree.specs.declared.tree.CTy.{CTy}
@@ -10,8 +10,8 @@ use Rattle.c_tree.specs.declared.tree.CStmt.{CStmt}
 use Rattle.c_tree.specs.declared.tree.CStmt.TheVariants as stmt
 use Rattle.c_tree.specs.declared.tree.CVar.{CVar}
 use Rattle.c_tree.specs.declared.tree.CExpr.{CExpr}
-use Rattle.c_tree.specs.Code.{Code, done, return, onto}
-use Rattle.c_meaning.specs.Checked.{Signature, Wants, AType, AnError, AText, wants_of, argument_fits, arguments_fit, code_fits, returns_last, is_looped}
+use Rattle.c_tree.specs.Code.{done, return, onto}
+use Rattle.c_meaning.specs.Checked.{Signature, AType, AnError, AText, wants_of, argument_fits, arguments_fit, code_fits, returns_last, is_looped}
 use Rattle.c_check.specs.Scopes.{statement_fits, is_return}
 
 abbrev pub types_fit : List CVar → List CTy → List CArg → Bool
@@ -134,8 +134,8 @@ last-return (s ∷ t ∷ ss) = ap ends_in_return (later s t ss) ∙ last-return 
 
 -- A body is one loop, or straight ------------------------------------------------------------------
 
-pub straight-looped : (vars : List CVar) (t : CTy) (ss : List CStmt) → false ≡ is_looped vars t (onto ss done)
-straight-looped vars t [] = refl
-straight-looped vars t (stmt.Assign x e ∷ ss) = refl
-straight-looped vars t (stmt.Call c ∷ ss) = refl
-straight-looped vars t (stmt.Return e ∷ ss) = refl
+pub straight-looped : (sigs : List Signature) (vars : List CVar) (t : CTy) (ss : List CStmt) → false ≡ is_looped sigs vars t (onto ss done)
+straight-looped sigs vars t [] = refl
+straight-looped sigs vars t (stmt.Assign x e ∷ ss) = refl
+straight-looped sigs vars t (stmt.Call c ∷ ss) = refl
+straight-looped sigs vars t (stmt.Return e ∷ ss) = refl

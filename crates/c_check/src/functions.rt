@@ -33,8 +33,7 @@ fn returns_last(statements: &[CStmt]) -> bool
 }
 
 fn is_looped(scope: &Scope, f: &CFun) -> bool
-    requires { functions_of scope.now ≡ [] }
-    ensures { result ≡ is_looped (variables_of scope.now) f.now.result (fun_of f.now).code }
+    ensures { result ≡ is_looped (functions_of scope.now) (variables_of scope.now) f.now.result (fun_of f.now).code }
 {
     match &f.body {
         CBody::Straight(_) => false,
@@ -74,44 +73,35 @@ fn is_main_function(scope: &Scope, f: &CFun) -> bool
 }
 
 fn function_fits(
-    alloc: Global,
     defined: &NameTable,
     declared: &Declared,
+    alloc: Global,
     f: &CFun,
 ) -> Result<bool, OutOfMemory>
     ensures { IfOk result (λ fits. fits ≡ function_fits (callable defined.now declared.now) (fun_of f.now)) }
 {
     match Variables::of(alloc, f)? {
         None => Ok(false),
-        Some(variables) => Ok(body_fits(alloc, defined, declared, variables, f)),
+        Some(variables) => Ok(body_fits(
+            &Scope {
+                defined,
+                declared,
+                variables,
+            },
+            f,
+        )),
     }
 }
 
-fn body_fits(
-    alloc: Global,
-    defined: &NameTable,
-    declared: &Declared,
-    variables: Variables,
-    f: &CFun,
-) -> bool
-    requires { variables ≡ all_variables (fun_of f.now) }
-    ensures { result ≡ (if is_main f.now.name then is_main_function (callable defined.now declared.now) (fun_of f.now) else is_looped (all_variables (fun_of f.now)) f.now.result (fun_of f.now).code) }
+fn body_fits(scope: &Scope, f: &CFun) -> bool
+    requires { variables_of scope.now ≡ all_variables (fun_of f.now) }
+    ensures { result ≡ (if is_main f.now.name then is_main_function (functions_of scope.now) (fun_of f.now) else is_looped (functions_of scope.now) (all_variables (fun_of f.now)) f.now.result (fun_of f.now).code) }
 {
     if is_main(f.name.as_bytes()) {
-        let scope = Scope {
-            defined,
-            declared,
-            variables,
-        };
-        return is_main_function(&scope, f);
+        is_main_function(scope, f)
+    } else {
+        is_looped(scope, f)
     }
-    let none = Declared::new(alloc);
-    let scope = Scope {
-        defined,
-        declared: &none,
-        variables,
-    };
-    is_looped(&scope, f)
 }
 
 /// Whether an item fits, where these names are defined in the program and these signatures stand before it.
@@ -125,6 +115,6 @@ pub fn item_fits(
 {
     match item {
         CItem::Declared(_, _, _) => Ok(true),
-        CItem::Defined(f) => function_fits(alloc, defined, declared, f),
+        CItem::Defined(f) => function_fits(defined, declared, alloc, f),
     }
 }

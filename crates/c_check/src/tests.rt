@@ -29,9 +29,13 @@ enum Change {
     NoMain,
     NotOneLoop,
     CallInALoop,
+    CallOfMainInALoop,
+    CallOfNoneInALoop,
 }
 
-const BROKEN: [Change; 19] = [
+const KEPT: [Change; 2] = [Change::Nothing, Change::CallInALoop];
+
+const BROKEN: [Change; 20] = [
     Change::UndeclaredLocal,
     Change::WrongType,
     Change::WrongTypeOfResult,
@@ -50,7 +54,8 @@ const BROKEN: [Change; 19] = [
     Change::MainWithParameter,
     Change::NoMain,
     Change::NotOneLoop,
-    Change::CallInALoop,
+    Change::CallOfMainInALoop,
+    Change::CallOfNoneInALoop,
 ];
 
 const FUNCTION: &[u8] = b"f_m__n";
@@ -200,6 +205,19 @@ fn main_function(alloc: Global, change: Change) -> Result<CFun, OutOfMemory> {
     })
 }
 
+// What the function with a loop calls: itself, `main`, or what is not declared.
+fn called_in_loop(alloc: Global, change: Change) -> Result<Option<CCall>, OutOfMemory> {
+    match change {
+        Change::CallInALoop => Ok(Some(function_call(alloc, change)?)),
+        Change::CallOfMainInALoop => Ok(Some(function_call(alloc, Change::CallOfMain)?)),
+        Change::CallOfNoneInALoop => Ok(Some(CCall {
+            callee: Callee::Fun(Text::from_bytes(alloc, b"f_m__o")?),
+            args: List::new(alloc),
+        })),
+        _ => Ok(None),
+    }
+}
+
 // `obj f_m__n(obj x1) { obj x2; L1: for (;;) { x2 = x1; return x2; } }`
 fn looped_function(alloc: Global, change: Change) -> Result<CFun, OutOfMemory> {
     let mut params = List::new(alloc);
@@ -208,8 +226,8 @@ fn looped_function(alloc: Global, change: Change) -> Result<CFun, OutOfMemory> {
     locals.push(var(alloc, CTy::Obj, b"x2")?)?;
     let mut statements = List::new(alloc);
     statements.push(assign(alloc, b"x2", CExpr::Atom(name(alloc, b"x1")?))?)?;
-    if change == Change::CallInALoop {
-        statements.push(CStmt::Call(function_call(alloc, change)?))?;
+    if let Some(called) = called_in_loop(alloc, change)? {
+        statements.push(CStmt::Call(called))?;
     }
     statements.push(CStmt::Return(CExpr::Atom(name(alloc, b"x2")?)))?;
     Ok(CFun {
@@ -255,10 +273,12 @@ fn is_refused(alloc: Global, change: Change) -> Result<bool, CheckErr> {
 }
 
 #[test]
-fn a_program_that_breaks_no_rule_is_kept(rt: HostRuntime) -> Result<(), CheckErr> {
+fn programs_that_break_no_rule_are_kept(rt: HostRuntime) -> Result<(), CheckErr> {
     let alloc = rt.alloc();
-    let checked = check(alloc, program(alloc, Change::Nothing)?)?;
-    assert_eq!(rt; checked.program().items.len(), 4);
+    for change in KEPT {
+        let checked = check(alloc, program(alloc, change)?)?;
+        assert_eq!(rt; checked.program().items.len(), 4);
+    }
     Ok(())
 }
 

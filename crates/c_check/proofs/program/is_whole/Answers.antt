@@ -1,4 +1,4 @@
-use Rattle.std.proofs.Common.{◌∙◌, sym, refl, false, true, codes, ◌&&◌, ap}
+use Rattle.std.proofs.Common.{◌∙◌, sym, refl, false, true, codes}
 use Rattle.c_tree.specs.Code.{items_of}
 use Rattle.name_table.specs.Names.{has_name}
 use Rattle.c_check.proofs.Items.{checked_whole}

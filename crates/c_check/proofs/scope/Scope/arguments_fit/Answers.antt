@@ -1,4 +1,4 @@
-use Rattle.std.proofs.Common.{◌≡◌, ◌∙◌, sym, length, arith}
+use Rattle.std.proofs.Common.{arith}
 use Rattle.c_check.specs.Scopes.{variables_of}
 use Rattle.c_check.proofs.Statements.{too_many}
 use Rattle.c_check.proofs.scope.Scope.arguments_fit.Goals as goal

@@ -1,5 +1,4 @@
-use Rattle.std.proofs.Common.{◌≡◌, ◌∙◌, ◌++◌, [], ap, sym, true, false}
-use Rattle.c_meaning.specs.Checked.{are_distinct}
+use Rattle.std.proofs.Common.{◌≡◌, ◌∙◌, ◌++◌, [], sym, true, false}
 use Rattle.c_check.specs.Names.{are_fresh}
 use Rattle.c_check.specs.Variables.{names_of}
 use Rattle.c_check.proofs.Fresh.{params_differ, locals_differ, all_differ}
