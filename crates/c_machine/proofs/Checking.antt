@@ -1,11 +1,11 @@
 -- What a check tells of a program.
-use Rattle.std.proofs.Common.{◌≡◌, ℕ, zero, suc, Bool, true, false, not, ◌&&◌, ◌||◌, cond, List, [], ◌∷◌, ◌++◌, Option, Some, None, slice_get, map, refl, sym, ap, subst, ◌∙◌, if◌then◌else◌, ◌⊎◌, inl, inr}
-use Rattle.std.specs.Prelude.{codes, find, filter}
+use Rattle.std.proofs.Common.{◌≡◌, ℕ, zero, suc, Bool, true, false, not, ◌&&◌, ◌||◌, cond, List, [], ◌∷◌, ◌++◌, Some, slice_get, map, refl, sym, ap, subst, ◌∙◌, if◌then◌else◌, ◌⊎◌, inl, inr}
+use Rattle.std.specs.Prelude.{codes, find}
 use Rattle.std.specs.List.{list_any, list_all}
 use Rattle.std.specs.Cmp.Lexicographic.{nat_list_eq_equiv, same_text}
 use Rattle.std.proofs.lemmas.Bool.{and_parts, and_from, not-true}
 use Rattle.c_tree.specs.declared.tree.CTy.{CTy}
-use Rattle.c_tree.specs.declared.tree.CTy.TheVariants.{Obj, Long, Char, Int}
+use Rattle.c_tree.specs.declared.tree.CTy.TheVariants.{Int}
 use Rattle.c_tree.specs.declared.tree.CStmt.{CStmt}
 use Rattle.c_tree.specs.declared.tree.CStmt.TheVariants as stmt
 use Rattle.c_tree.specs.declared.tree.CBody.{CBody}
@@ -14,13 +14,13 @@ use Rattle.c_tree.specs.declared.tree.CVar.{CVar}
 use Rattle.c_tree.specs.declared.tree.CFun.{CFun}
 use Rattle.c_tree.specs.declared.tree.CItem.{CItem}
 use Rattle.c_tree.specs.declared.tree.CItem.TheVariants.{Declared, Defined}
-use Rattle.c_tree.specs.Code.{Code, done, assign, call, return, loop, Fun, Item, defined, onto, fun_of, item_of, items_of, code_of as c_code}
+use Rattle.c_tree.specs.Code.{done, defined, onto, fun_of, item_of, items_of, code_of as c_code}
 use Rattle.c_tree.specs.Names.{is_main}
-use Rattle.c_meaning.specs.Execution.{Names, is_same, is_called, position_of, fun_named}
-use Rattle.c_meaning.specs.Program.{functions_of, main_of}
+use Rattle.c_meaning.specs.Execution.{is_same, position_of, fun_named}
+use Rattle.c_meaning.specs.Program.{functions_of}
 use Rattle.c_meaning.specs.Checked.{Signature, signature_of, signature_named, same_type, same_types, same_signature, are_distinct, code_fits, returns_last, is_looped, is_main_function, function_fits, callable, item_fits, agrees, items_fit, defined_names, is_sound, is_checked, IsChecked}
-use Rattle.c_machine.specs.Decoded.{variables_of, variable_names, definitions, definition_in, function_names, has_distinct, HasNames}
-use Rattle.c_machine.proofs.Means.{meant, Callee, Callees, statements_of, Typed, AllTyped}
+use Rattle.c_machine.specs.Decoded.{variables_of, variable_names, definitions, function_names, has_distinct, HasNames}
+use Rattle.c_machine.proofs.Means.{meant, Callee, statements_of, Typed, AllTyped}
 use Rattle.c_machine.proofs.Typing.{same_type_is}
 use Rattle.c_machine.proofs.Sound.{place_in}
 
@@ -160,7 +160,7 @@ all_distinct names sigs (Defined g ∷ is) h =
     let s = signature_in g in
     let p = and_parts (agrees sigs s && item_fits names sigs (item_of (Defined g))) (items_fit names (s ∷ sigs) (items_of is)) h in
     let q = and_parts (agrees sigs s) (item_fits names sigs (item_of (Defined g))) p.0 in
-    let r = and_parts (are_distinct (variable_names (variables_of g))) (if is_main g.name then is_main_function (callable names sigs) (fun_of g) else is_looped (variables_of g) g.result (c_code g.body)) q.1 in
+    let r = and_parts (are_distinct (variable_names (variables_of g))) (if is_main g.name then is_main_function (callable names sigs) (fun_of g) else is_looped (callable names sigs) (variables_of g) g.result (c_code g.body)) q.1 in
     and_from (has_distinct g) (list_all has_distinct (definitions is)) r.0 (all_distinct names (s ∷ sigs) is p.1)
 
 -- Functions by name -------------------------------------------------------------------------
@@ -239,19 +239,19 @@ record IsLoop (f : CFun) : Type 0 where
   block : List CStmt
   is : f.body ≡ Looped label block
 
-straight_no_loop : (vars : List CVar) (t : CTy) (ss : List CStmt) → is_looped vars t (onto ss done) ≡ true → ⊥
-straight_no_loop vars t [] h = absurd (cc)
-straight_no_loop vars t (stmt.Assign x e ∷ ss) h = absurd (cc)
-straight_no_loop vars t (stmt.Call c ∷ ss) h = absurd (cc)
-straight_no_loop vars t (stmt.Return e ∷ ss) h = absurd (cc)
+straight_no_loop : (sigs : List Signature) (vars : List CVar) (t : CTy) (ss : List CStmt) → is_looped sigs vars t (onto ss done) ≡ true → ⊥
+straight_no_loop sigs vars t [] h = absurd (cc)
+straight_no_loop sigs vars t (stmt.Assign x e ∷ ss) h = absurd (cc)
+straight_no_loop sigs vars t (stmt.Call c ∷ ss) h = absurd (cc)
+straight_no_loop sigs vars t (stmt.Return e ∷ ss) h = absurd (cc)
 
-loop_of : (f : CFun) (body : CBody) → f.body ≡ body → is_looped (variables_of f) f.result (c_code body) ≡ true → IsLoop f
-loop_of f (Straight ss) e h = absurd (straight_no_loop (variables_of f) f.result ss h)
-loop_of f (Looped l ss) e h = record { label = l; block = ss; is = e }
+loop_of : (sigs : List Signature) (f : CFun) (body : CBody) → f.body ≡ body → is_looped sigs (variables_of f) f.result (c_code body) ≡ true → IsLoop f
+loop_of sigs f (Straight ss) e h = absurd (straight_no_loop sigs (variables_of f) f.result ss h)
+loop_of sigs f (Looped l ss) e h = record { label = l; block = ss; is = e }
 
-loop_fits : (vars : List CVar) (t : CTy) (body : CBody) → is_looped vars t (c_code body) ≡ true → code_fits [] vars t (onto (statements_of body) done) ≡ true
-loop_fits vars t (Straight ss) h = absurd (straight_no_loop vars t ss h)
-loop_fits vars t (Looped l ss) h = h
+loop_fits : (sigs : List Signature) (vars : List CVar) (t : CTy) (body : CBody) → is_looped sigs vars t (c_code body) ≡ true → code_fits sigs vars t (onto (statements_of body) done) ≡ true
+loop_fits sigs vars t (Straight ss) h = absurd (straight_no_loop sigs vars t ss h)
+loop_fits sigs vars t (Looped l ss) h = h
 
 -- what is known of `main`
 pub record IsMain (sigs : List Signature) (f : CFun) : Type 0 where
@@ -300,10 +300,10 @@ has_names is h =
     let p = parts is h in
     record { functions = p.distinct; variables = all_distinct (function_names (definitions is)) [] is p.fit }
 
-fits_here : (sigs : List Signature) (f : CFun) (b : Bool) → is_main f.name ≡ b → function_fits sigs (fun_of f) ≡ true → (if b then is_main_function sigs (fun_of f) else is_looped (variables_of f) f.result (c_code f.body)) ≡ true
+fits_here : (sigs : List Signature) (f : CFun) (b : Bool) → is_main f.name ≡ b → function_fits sigs (fun_of f) ≡ true → (if b then is_main_function sigs (fun_of f) else is_looped sigs (variables_of f) f.result (c_code f.body)) ≡ true
 fits_here sigs f b e h =
-    let p = and_parts (are_distinct (variable_names (variables_of f))) (if is_main f.name then is_main_function sigs (fun_of f) else is_looped (variables_of f) f.result (c_code f.body)) h in
-    subst (λ (c : Bool). (if c then is_main_function sigs (fun_of f) else is_looped (variables_of f) f.result (c_code f.body)) ≡ true) e p.1
+    let p = and_parts (are_distinct (variable_names (variables_of f))) (if is_main f.name then is_main_function sigs (fun_of f) else is_looped sigs (variables_of f) f.result (c_code f.body)) h in
+    subst (λ (c : Bool). (if c then is_main_function sigs (fun_of f) else is_looped sigs (variables_of f) f.result (c_code f.body)) ≡ true) e p.1
 
 module _ (is : List CItem) (p : Parts is) where
   abbrev all : List Signature
@@ -323,7 +323,7 @@ module _ (is : List CItem) (p : Parts is) where
       let hg : h.name ≡ g = same_text h.name g (sym r.named) in
       let k = checked_at names [] is (place_in fs g) h p.fit r.there in
       let no : is_main h.name ≡ false = ap is_main (hg ∙ sym sg) ∙ c.no_main in
-      let l = loop_of h h.body refl (fits_here (callable names k.sigs) h false no k.fits) in
+      let l = loop_of (callable names k.sigs) h h.body refl (fits_here (callable names k.sigs) h false no k.fits) in
       let same = pair_same all s (signature_in h) (ends_agree names [] is p.fit refl) (among s c.among) (ends_have [] is (place_in fs g) h r.there) (ap (is_same s.name) hg ∙ c.named) in
       record {
         fun = h;
@@ -336,25 +336,25 @@ module _ (is : List CItem) (p : Parts is) where
         result = sym same.result;
       }
 
-  no_callees : Callees fs (place_in fs) []
-  no_callees g s e = absurd (cc)
-
   main_fits : (sigs : List Signature) (f : CFun) (m : IsMain sigs f) → code_fits sigs (variables_of f) f.result (onto (statements_of f.body) done) ≡ true
   main_fits sigs f m =
       subst (λ (b : CBody). code_fits sigs (variables_of f) f.result (onto (statements_of b) done) ≡ true) (sym m.is)
       (subst (λ (t : CTy). code_fits sigs (variables_of f) t (onto m.block done) ≡ true) (sym m.result)
       (subst (λ (ps : List CVar). code_fits sigs (ps ++ f.locals) Int (onto m.block done) ≡ true) (sym m.params) m.fits))
 
-  typed_at : (k : ℕ) (f : CFun) (c : CheckedAt names all f) (b : Bool) → is_main f.name ≡ b → Typed fs (place_in fs) f
-  typed_at k f c true e =
-      let sigs = callable names c.sigs in
-      let m = main_of_fits sigs f (fits_here sigs f true e c.fits) in
-      record { sigs = sigs; callees = λ g s h. callee_there c.sigs g s c.among (called names c.sigs g s h); fits = main_fits sigs f m }
-  typed_at k f c false e =
-      record { sigs = []; callees = no_callees; fits = loop_fits (variables_of f) f.result f.body (fits_here (callable names c.sigs) f false e c.fits) }
+  body_fits : (sigs : List Signature) (f : CFun) (b : Bool) → is_main f.name ≡ b → function_fits sigs (fun_of f) ≡ true → code_fits sigs (variables_of f) f.result (onto (statements_of f.body) done) ≡ true
+  body_fits sigs f true e h = main_fits sigs f (main_of_fits sigs f (fits_here sigs f true e h))
+  body_fits sigs f false e h = loop_fits sigs (variables_of f) f.result f.body (fits_here sigs f false e h)
+
+  typed_at : (f : CFun) → CheckedAt names all f → Typed fs (place_in fs) f
+  typed_at f c = record {
+    sigs = callable names c.sigs;
+    callees = λ g s h. callee_there c.sigs g s c.among (called names c.sigs g s h);
+    fits = body_fits (callable names c.sigs) f (is_main f.name) refl c.fits;
+  }
 
   typed_all : AllTyped fs (place_in fs)
-  typed_all k f e = typed_at k f (checked_at names [] is k f p.fit e) (is_main f.name) refl
+  typed_all k f e = typed_at f (checked_at names [] is k f p.fit e)
 
 -- the `main` of a program
 pub record Main (is : List CItem) : Type 0 where

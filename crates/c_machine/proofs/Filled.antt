@@ -1,6 +1,5 @@
 -- The slots of a call hold its arguments, and then zeros.
-use Rattle.std.proofs.Common.{◌≡◌, ℕ, zero, suc, ◌+◌, true, false, ◌&&◌, List, [], ◌∷◌, ◌++◌, length, Option, Some, None, slice_get, get_or, map, replicate, refl, sym, ap, subst, ◌∙◌, arith}
-use Rattle.std.specs.Prelude.{unwrap_or, pos}
+use Rattle.std.proofs.Common.{◌≡◌, ℕ, zero, suc, true, List, [], ◌∷◌, ◌++◌, length, Some, slice_get, get_or, map, replicate, refl, ap, subst}
 use Rattle.std.proofs.lemmas.Bool.{and_parts}
 use Rattle.c_tree.specs.declared.tree.CTy.{CTy}
 use Rattle.c_tree.specs.declared.tree.CTy.TheVariants.{Obj, Long, Char, Int}
@@ -9,8 +8,8 @@ use Rattle.c_tree.specs.declared.tree.CArg.TheVariants as arg
 use Rattle.c_tree.specs.declared.tree.CVar.{CVar}
 use Rattle.c_tree.specs.declared.tree.CFun.{CFun}
 use Rattle.c_tree.specs.Code.{fun_of}
-use Rattle.c_meaning.specs.State.{Cell, AWord, ANumber, Frame, blank, frame_of}
-use Rattle.c_meaning.specs.Execution.{Names, argument, arguments, cells, entry}
+use Rattle.c_meaning.specs.State.{Cell, Frame, blank, frame_of}
+use Rattle.c_meaning.specs.Execution.{arguments, cells, entry}
 use Rattle.c_meaning.specs.Checked.{AType, arguments_fit, atom_fits}
 use Rattle.c_machine.specs.Steps.{look, ReadsAll}
 use Rattle.c_machine.specs.Decoded.{operand_in, variables_of, variable_names}

@@ -1,6 +1,6 @@
 -- A run only adds to its output.
-use Rattle.std.proofs.Common.{◌≡◌, ℕ, zero, suc, ◌+◌, ◌≤◌, Bool, true, false, List, [], ◌∷◌, ◌++◌, Option, Some, None, refl, sym, ap, ◌∙◌, subst, append_assoc, if◌then◌else◌, ⊎_elim}
-use Rattle.std.specs.Prelude.{ℤ, pos, negsuc, codes, ◌+ℤ◌}
+use Rattle.std.proofs.Common.{◌≡◌, ℕ, zero, suc, Bool, true, false, List, [], ◌∷◌, ◌++◌, Option, Some, None, refl, sym, ap, ◌∙◌, subst, append_assoc, if◌then◌else◌, ⊎_elim}
+use Rattle.std.specs.Prelude.{ℤ, pos, codes, ◌+ℤ◌}
 use Rattle.std.proofs.lemmas.List.{append-nil}
 use Rattle.scheme_data.specs.Fixnum.{is_fixnum}
 use Rattle.base_io.specs.Observation.{Observation}
@@ -14,12 +14,11 @@ use Rattle.c_tree.specs.declared.tree.CStmt.{CStmt}
 use Rattle.c_tree.specs.declared.tree.CFun.{CFun}
 use Rattle.c_tree.specs.declared.tree.Callee.{Callee}
 use Rattle.c_tree.specs.declared.tree.Callee.TheVariants as callee
-use Rattle.c_tree.specs.declared.tree.CCall.{CCall}
 use Rattle.c_tree.specs.declared.tree.CExpr.{CExpr}
 use Rattle.c_tree.specs.declared.tree.CExpr.TheVariants as expr
 use Rattle.c_tree.specs.Code.{Code, done, assign, call, return, loop, Fun, onto}
 use Rattle.c_meaning.specs.Word.{Word, Fixnum, False, True, Nil, Unspec, Eof, printed}
-use Rattle.c_meaning.specs.State.{Cell, AWord, ANumber, State, Frame, put, Answer, Has, Leaves, Stops, Ends, Faults, Flow, Next, Goes, Returns, Escapes, Raises, Spends, Fails, with, after, answer, take_from, take_turn}
+use Rattle.c_meaning.specs.State.{Cell, AWord, ANumber, State, Frame, put, Answer, Has, Leaves, Stops, Ends, Faults, Flow, Next, Goes, Returns, Escapes, Raises, Spends, Fails, with, after, answer, take_from}
 use Rattle.c_meaning.specs.Operations.{Argument, ACell, AString, operate, fixnum_in}
 use Rattle.c_meaning.specs.Execution.{Names, Lower, is_same, position_of, arguments, cells, again, iterate, looped, entry, names_of, enter, invoke, eval, exec, run, fun_named}
 use Rattle.c_meaning.specs.Program.{shown}
@@ -27,7 +26,7 @@ use Rattle.c_machine.specs.declared.stepping.Frame.{Frame as Waiter}
 use Rattle.c_machine.specs.declared.program.Dest.{Dest}
 use Rattle.c_machine.specs.declared.program.Dest.TheVariants as dest
 use Rattle.c_machine.specs.Steps.{Config}
-use Rattle.c_machine.proofs.Means.{meant, wrap, flow_of, delivers, names_in, Callers, Waits, Running, Giving, Means}
+use Rattle.c_machine.proofs.Means.{meant, wrap, flow_of, delivers, names_in, Callers, Running, Giving, Means}
 
 -- the first bytes of these
 abbrev pub Begins : List ℕ → List ℕ → Type 0

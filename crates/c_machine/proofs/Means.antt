@@ -1,17 +1,16 @@
 -- What a state of the machine stands for.
-use Rattle.std.specs.Prelude.{◌≡◌, ℕ, zero, suc, ◌+◌, ◌-◌, ◌*◌, ◌<◌, ◌≤◌, List, [], ◌∷◌, ◌++◌, map, codes, length, Option, Some, None, slice_get, drop, true, ◌⊎◌}
-use Rattle.base_io.specs.declared.end.End.{End}
+use Rattle.std.specs.Prelude.{◌≡◌, ℕ, suc, ◌+◌, ◌-◌, ◌*◌, ◌<◌, ◌≤◌, List, [], ◌∷◌, ◌++◌, map, length, Option, Some, None, slice_get, drop, true, ◌⊎◌}
 use Rattle.base_io.specs.declared.end.End.TheVariants.{Fault}
 use Rattle.base_io.specs.declared.end.FaultKind.TheVariants.{Tag}
 use Rattle.base_io.specs.Observation.{Observation}
 use Rattle.c_tree.specs.declared.tree.CTy.{CTy}
-use Rattle.c_tree.specs.declared.tree.CTy.TheVariants.{Obj, Long, Char, Int}
+use Rattle.c_tree.specs.declared.tree.CTy.TheVariants.{Int}
 use Rattle.c_tree.specs.declared.tree.CStmt.{CStmt}
 use Rattle.c_tree.specs.declared.tree.CBody.{CBody}
 use Rattle.c_tree.specs.declared.tree.CBody.TheVariants.{Straight, Looped}
 use Rattle.c_tree.specs.declared.tree.CVar.{CVar}
 use Rattle.c_tree.specs.declared.tree.CFun.{CFun}
-use Rattle.c_tree.specs.Code.{Code, done, Fun, fun_of, onto}
+use Rattle.c_tree.specs.Code.{done, Fun, fun_of, onto}
 use Rattle.c_meaning.specs.State.{Cell, State, Frame, put, Flow, Returns, with, answer}
 use Rattle.c_meaning.specs.Execution.{Names, again, exec, run, fun_named}
 use Rattle.c_meaning.specs.Program.{shown}
@@ -22,8 +21,8 @@ use Rattle.c_machine.specs.declared.program.Instr.{Instr}
 use Rattle.c_machine.specs.declared.program.Instr.TheVariants as instr
 use Rattle.c_machine.specs.declared.program.Function.{Function}
 use Rattle.c_machine.specs.declared.stepping.Frame.{Frame as Waiter}
-use Rattle.c_machine.specs.Steps.{Config, Move, Goes, Ends, NeedsDest, Needs, act, instr_in, instr_at, advanced}
-use Rattle.c_machine.specs.Decoded.{instrs_of, code_of, variables_of, variable_names, function_of, functions_of, function_names}
+use Rattle.c_machine.specs.Steps.{Config, Move, Goes, Ends, Needs, act, instr_at, advanced}
+use Rattle.c_machine.specs.Decoded.{instrs_of, code_of, variables_of, variable_names, functions_of, function_names}
 use Rattle.c_machine.proofs.Typing.{slot_of, Fits, Holds}
 
 -- Programs ----------------------------------------------------------------------------------

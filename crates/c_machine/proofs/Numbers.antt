@@ -1,11 +1,11 @@
 -- Numbers and words, and their bits.
-use Rattle.std.proofs.Common.{◌≡◌, ℕ, suc, ◌+◌, ◌-◌, ◌*◌, ◌/◌, ◌%◌, ◌^◌, ◌<◌, ◌≤◌, Bool, true, false, List, refl, sym, ap, ◌∙◌, arith, if◌then◌else◌}
-use Rattle.std.specs.Prelude.{nat_lt, nat_eq, codes, ℤ, pos, negsuc, IsTrue}
+use Rattle.std.proofs.Common.{◌≡◌, ℕ, ◌+◌, ◌-◌, ◌*◌, ◌/◌, ◌%◌, ◌^◌, ◌<◌, Bool, true, false, refl, ap, ◌∙◌, arith, if◌then◌else◌}
+use Rattle.std.specs.Prelude.{nat_lt, nat_eq, ℤ, pos, negsuc}
 use Rattle.std.proofs.lemmas.Bool.{ltb-true, lt-ltb, le-ltb, eq-eqb}
 use Rattle.scheme_data.specs.Decimal.{number_text}
-use Rattle.scheme_data.specs.Fixnum.{IsFixnum, is_fixnum, long_word, fixnum_word}
+use Rattle.scheme_data.specs.Fixnum.{IsFixnum, long_word, fixnum_word}
 use Rattle.c_meaning.specs.Word.{Word, Fixnum, False, True, Nil, Unspec, Eof, number_of, printed}
-use Rattle.c_meaning.specs.Operations.{small, status_in}
+use Rattle.c_meaning.specs.Operations.{status_in}
 use Rattle.c_meaning.specs.Checked.{is_byte}
 use Rattle.c_machine.specs.Words.{long_of, fixnum_of, word_text, byte_of, status_of, constant_text}
 

@@ -1,33 +1,31 @@
 -- Each operation gives what its action gives.
-use Rattle.std.proofs.Common.{◌≡◌, ℕ, zero, suc, ◌+◌, ◌<◌, ◌≤◌, ◌%◌, Bool, true, false, ◌&&◌, List, [], ◌∷◌, ◌++◌, length, Option, Some, None, slice_get, map, refl, sym, ap, subst, ◌∙◌, if◌then◌else◌, arith}
+use Rattle.std.proofs.Common.{◌≡◌, ℕ, ◌<◌, ◌%◌, Bool, true, false, List, [], ◌∷◌, ◌++◌, length, refl, sym, ap, subst, ◌∙◌, if◌then◌else◌, arith}
 use Rattle.std.specs.Prelude.{ℤ, pos, negsuc, ◌+ℤ◌, codes, nat_lt, nat_le, nat_eq}
 use Rattle.std.proofs.lemmas.List.{append-nil}
-use Rattle.std.proofs.lemmas.Bool.{and_parts, leb-true, ltb-true, lt-ltb, lt-leb}
+use Rattle.std.proofs.lemmas.Bool.{and_parts, leb-true, lt-ltb}
 use Rattle.scheme_data.specs.Fixnum.{IsFixnum, is_fixnum, long_word, fixnum_word}
-use Rattle.base_io.specs.declared.end.End.{End}
 use Rattle.base_io.specs.declared.end.End.TheVariants.{Raised}
 use Rattle.prim_table.specs.declared.primitives.Primitive.TheVariants.{Add, Display, Newline}
 use Rattle.c_tree.specs.declared.op.Op.{Op}
 use Rattle.c_tree.specs.declared.op.Op.TheVariants.{BoxLong, UnboxLong, Raise, Args, Status, Primitive as Prim_op}
 use Rattle.c_tree.specs.declared.tree.CTy.{CTy}
-use Rattle.c_tree.specs.declared.tree.CTy.TheVariants.{Obj, Long, Char, Int}
+use Rattle.c_tree.specs.declared.tree.CTy.TheVariants.{Obj, Long, Int}
 use Rattle.c_tree.specs.declared.tree.CAtom.{CAtom}
 use Rattle.c_tree.specs.declared.tree.CAtom.TheVariants as atoms
 use Rattle.c_tree.specs.declared.tree.CArg.{CArg}
 use Rattle.c_tree.specs.declared.tree.CArg.TheVariants as arg
 use Rattle.c_tree.specs.declared.tree.CVar.{CVar}
-use Rattle.c_meaning.specs.Word.{Word, Fixnum, False, True, Nil, Unspec, Eof, number_of, printed}
+use Rattle.c_meaning.specs.Word.{Word, Fixnum, False, True, Nil, Unspec, Eof, number_of}
 use Rattle.c_meaning.specs.State.{Cell, AWord, ANumber, State, Frame, Answer, Has, Leaves, Stops, Ends, Faults}
-use Rattle.c_meaning.specs.Operations.{Argument, ACell, AString, operate, print, fixnum_in, in_range, status_in}
-use Rattle.c_meaning.specs.Execution.{Names, atom, argument, arguments}
-use Rattle.c_meaning.specs.Checked.{Wants, AType, AnError, AText, wants_of, gives_of, is_error, is_byte, argument_fits, arguments_fit, atom_fits}
+use Rattle.c_meaning.specs.Operations.{ACell, operate, print, fixnum_in, in_range}
+use Rattle.c_meaning.specs.Execution.{atom, arguments}
+use Rattle.c_meaning.specs.Checked.{AType, AnError, AText, wants_of, gives_of, argument_fits, arguments_fit, atom_fits}
 use Rattle.c_machine.specs.declared.program.Action.{Action}
-use Rattle.c_machine.specs.declared.program.Action.TheVariants as action
 use Rattle.c_machine.specs.Words.{long_of, fixnum_of, word_text, byte_of, status_of}
-use Rattle.c_machine.specs.Steps.{look, Reads, ReadsNumber, NeedsAction, Gave, Gives, Quits, performed, sum_of, unboxed_of}
-use Rattle.c_machine.specs.Decoded.{operand_of, operand_in, action_of, variable_names}
-use Rattle.c_machine.proofs.Numbers.{WordFits, long_back, fixnum_back, fixnum_tag, word_text_is, status_is, status_byte, when_true, when_false}
-use Rattle.c_machine.proofs.Typing.{slot_of, Fits, Slot, Holds, Reading, atom_reading}
+use Rattle.c_machine.specs.Steps.{look, NeedsAction, Gave, Gives, Quits, performed, sum_of, unboxed_of}
+use Rattle.c_machine.specs.Decoded.{operand_of, action_of, variable_names}
+use Rattle.c_machine.proofs.Numbers.{WordFits, long_back, fixnum_back, fixnum_tag, word_text_is, status_is, status_byte, when_true}
+use Rattle.c_machine.proofs.Typing.{Slot, Holds, atom_reading}
 
 -- an action gives what an answer has, or ends the run as the answer does
 abbrev pub Matches : CTy → State → Gave → Answer → Type 0

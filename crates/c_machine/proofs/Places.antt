@@ -1,16 +1,14 @@
 -- Where instructions stand, and the work that is left there.
-use Rattle.std.proofs.Common.{◌≡◌, ℕ, zero, suc, ◌+◌, ◌-◌, ◌*◌, ◌<◌, ◌≤◌, List, [], ◌∷◌, ◌++◌, length, Option, Some, None, slice_get, drop, map, refl, sym, ap, subst, ◌∙◌, arith}
+use Rattle.std.proofs.Common.{◌≡◌, ℕ, zero, suc, ◌+◌, ◌-◌, ◌*◌, ◌<◌, ◌≤◌, List, [], ◌∷◌, length, Option, Some, None, slice_get, drop, refl, ap, ◌∙◌, arith}
 use Rattle.std.specs.Option.{option_map}
 use Rattle.std.proofs.lemmas.Option.{slice_get-map}
 use Rattle.c_tree.specs.declared.tree.CBody.{CBody}
 use Rattle.c_tree.specs.declared.tree.CBody.TheVariants.{Straight, Looped}
-use Rattle.c_tree.specs.declared.tree.CStmt.{CStmt}
 use Rattle.c_tree.specs.declared.tree.CFun.{CFun}
 use Rattle.c_meaning.specs.Execution.{Names}
 use Rattle.c_machine.specs.declared.program.Instr.{Instr}
 use Rattle.c_machine.specs.declared.program.Instr.TheVariants as instr
 use Rattle.c_machine.specs.declared.program.Function.{Function}
-use Rattle.c_machine.specs.declared.stepping.Frame.{Frame as Waiter}
 use Rattle.c_machine.specs.Steps.{Config, instr_in, instr_at}
 use Rattle.c_machine.specs.Decoded.{code_of, function_of, function_names}
 use Rattle.c_machine.proofs.Means.{decoded, names_in, steps_from, left_in, left_at, steps_at, steps_in, total, work}

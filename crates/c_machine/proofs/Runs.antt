@@ -1,13 +1,12 @@
 -- The loop of a run: how it begins, goes on and ends.
-use Rattle.std.proofs.Common.{◌≡◌, ℕ, zero, suc, ◌+◌, ◌<◌, ◌≤◌, List, [], ◌∷◌, ◌++◌, length, Option, Some, None, slice_get, replicate, drop, map, ◌⊎◌, refl, sym, ap, ◌∙◌, subst, arith, inl, inr, append_assoc}
-use Rattle.std.specs.Prelude.{codes, Result, Ok, Err, IsSome}
+use Rattle.std.proofs.Common.{◌≡◌, ℕ, ◌<◌, List, [], ◌∷◌, ◌++◌, length, Option, Some, None, slice_get, replicate, drop, refl, sym, ap, ◌∙◌, subst, arith, inl, append_assoc}
+use Rattle.std.specs.Prelude.{codes, Ok, Err, IsSome}
 use Rattle.std.specs.Prelude.{true}
 use Rattle.std.proofs.lemmas.List.{append-nil}
 use Rattle.std.proofs.lemmas.Option.{slice_get_within}
 use Rattle.base_io.specs.declared.end.End.{End}
 use Rattle.base_io.specs.declared.end.RunErr.{RunErr}
 use Rattle.base_io.specs.Observation.{Observation}
-use Rattle.c_tree.specs.declared.tree.CTy.{CTy}
 use Rattle.c_tree.specs.declared.tree.CStmt.{CStmt}
 use Rattle.c_tree.specs.declared.tree.CVar.{CVar}
 use Rattle.c_tree.specs.declared.tree.CBody.{CBody}
@@ -16,25 +15,23 @@ use Rattle.c_tree.specs.declared.tree.CFun.{CFun}
 use Rattle.c_tree.specs.declared.tree.CItem.{CItem}
 use Rattle.c_tree.specs.declared.tree.CProgram.{CProgram}
 use Rattle.c_tree.specs.Code.{Fun, done, fun_of, onto, items_of, code_of as c_code}
-use Rattle.c_meaning.specs.State.{State, Flow}
 use Rattle.c_meaning.specs.Execution.{entry, exec, run, fun_named}
-use Rattle.c_meaning.specs.Program.{cm, run_main, main_of, functions_of, start, shown}
+use Rattle.c_meaning.specs.Program.{cm, run_main, start, shown}
 use Rattle.c_meaning.specs.Checked.{code_fits}
 use Rattle.c_machine.specs.Added.{Added, AddedPart}
-use Rattle.c_machine.specs.Runs.{Ran, WrotePart}
+use Rattle.c_machine.specs.Runs.{Ran}
 use Rattle.c_machine.specs.declared.program.Instr.{Instr}
-use Rattle.c_machine.specs.declared.program.Instr.TheVariants as instr
 use Rattle.c_machine.specs.declared.program.Function.{Function}
 use Rattle.c_machine.specs.declared.stepping.Flow.{Flow as How}
 use Rattle.c_machine.specs.declared.stepping.Flow.TheVariants.{Going, Over, WriteFault, Memory}
 use Rattle.c_machine.specs.Steps.{Config, Move, Goes, Ends, Needs, act, instr_at, advanced, Does}
 use Rattle.c_machine.specs.Decoded.{definitions, function_names, function_of, code_of, instrs_of, variables_of, IsDecoded}
-use Rattle.c_machine.proofs.Means.{meant, decoded, names_in, last_of, statements_of, AllTyped, Typed, wrap, flow_of, config, Stands, Callers, Running, Means, NeedsAt, Kept, Sound, work}
+use Rattle.c_machine.proofs.Means.{meant, decoded, names_in, last_of, statements_of, wrap, flow_of, Callers, Means, Kept, Sound, work}
 use Rattle.c_machine.proofs.Places.{function_there}
 use Rattle.c_machine.proofs.Filled.{Filled, entry_holds}
 use Rattle.c_machine.proofs.Sound.{place_in, means_sound}
-use Rattle.c_machine.proofs.Grows.{Begins, means_begins}
-use Rattle.c_machine.proofs.Checking.{functions_meant, all_typed, main_there, Main}
+use Rattle.c_machine.proofs.Grows.{means_begins}
+use Rattle.c_machine.proofs.Checking.{functions_meant, all_typed, main_there}
 use Rattle.c_machine.proofs.Sinks.{added_twice, added_none}
 
 -- what the state of a machine for this program means

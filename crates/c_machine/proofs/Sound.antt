@@ -1,18 +1,17 @@
 -- Each step is safe, and keeps what the state means.
-use Rattle.std.proofs.Common.{◌≡◌, ℕ, zero, suc, ◌+◌, ◌-◌, ◌*◌, ◌<◌, ◌≤◌, Bool, true, false, ◌&&◌, List, [], ◌∷◌, ◌++◌, length, Option, Some, None, slice_get, get_or, drop, take, map, replicate, refl, sym, ap, subst, ◌∙◌, arith, if◌then◌else◌, inl, inr, ⊎_elim, length-append}
-use Rattle.std.specs.Prelude.{codes, slice_set, pos, negsuc}
+use Rattle.std.proofs.Common.{◌≡◌, ℕ, zero, suc, ◌+◌, ◌-◌, ◌*◌, ◌<◌, ◌≤◌, Bool, true, false, List, [], ◌∷◌, ◌++◌, length, Option, Some, None, slice_get, drop, take, map, replicate, refl, sym, ap, subst, ◌∙◌, arith, if◌then◌else◌, inl, inr, ⊎_elim, length-append}
+use Rattle.std.specs.Prelude.{slice_set, pos, negsuc}
 use Rattle.std.proofs.Math.Seq.{take-append_seam}
 use Rattle.std.proofs.lemmas.Bool.{and_parts, ltb-true}
 use Rattle.std.proofs.lemmas.List.{append-nil}
 use Rattle.std.proofs.lemmas.Option.{slice_get_within}
 use Rattle.base_io.specs.declared.end.End.{End}
-use Rattle.base_io.specs.declared.end.End.TheVariants.{Ended, Raised, Spent, Fault}
-use Rattle.base_io.specs.declared.end.FaultKind.TheVariants.{Tag, Entry}
+use Rattle.base_io.specs.declared.end.End.TheVariants.{Ended, Raised, Fault}
+use Rattle.base_io.specs.declared.end.FaultKind.TheVariants.{Tag}
 use Rattle.base_io.specs.Observation.{Observation}
 use Rattle.c_tree.specs.declared.tree.CTy.{CTy}
-use Rattle.c_tree.specs.declared.tree.CTy.TheVariants.{Obj, Long, Char, Int}
+use Rattle.c_tree.specs.declared.tree.CTy.TheVariants.{Int}
 use Rattle.c_tree.specs.declared.tree.CArg.{CArg}
-use Rattle.c_tree.specs.declared.tree.CArg.TheVariants as arg
 use Rattle.c_tree.specs.declared.tree.Callee.{Callee as Target}
 use Rattle.c_tree.specs.declared.tree.Callee.TheVariants as callee
 use Rattle.c_tree.specs.declared.tree.CCall.{CCall}
@@ -24,12 +23,12 @@ use Rattle.c_tree.specs.declared.tree.CBody.{CBody}
 use Rattle.c_tree.specs.declared.tree.CBody.TheVariants.{Straight, Looped}
 use Rattle.c_tree.specs.declared.tree.CVar.{CVar}
 use Rattle.c_tree.specs.declared.tree.CFun.{CFun}
-use Rattle.c_tree.specs.Code.{Code, done, loop, Fun, fun_of, onto, code_of as c_code}
+use Rattle.c_tree.specs.Code.{Code, done, Fun, fun_of, onto, code_of as c_code}
 use Rattle.c_meaning.specs.State.{Cell, AWord, ANumber, State, Frame, put, Answer, Has, Leaves, Stops, Ends as Spent_answer, Faults, Flow, Next, Goes as Jumps, Returns, Escapes, Raises, Spends, Fails, with, after, answer, take_from}
 use Rattle.c_meaning.specs.Operations.{print, operate}
-use Rattle.c_meaning.specs.Execution.{Names, position_of, atom, argument, arguments, cells, again, iterate, looped, entry, names_of, enter, invoke, eval, exec, run, fun_named}
+use Rattle.c_meaning.specs.Execution.{Names, position_of, atom, arguments, cells, again, iterate, looped, entry, enter, invoke, eval, exec, run, fun_named}
 use Rattle.c_meaning.specs.Program.{shown, end_of}
-use Rattle.c_meaning.specs.Checked.{Signature, signature_named, code_fits, AType, arguments_fit, call_fits_signature, call_type, is_the_type, has_type, expr_fits, assigned_fits, variable_named, wants_of, gives_of, is_byte}
+use Rattle.c_meaning.specs.Checked.{Signature, signature_named, code_fits, AType, arguments_fit, call_fits_signature, call_type, is_the_type, has_type, expr_fits, assigned_fits, variable_named, wants_of, gives_of}
 use Rattle.c_machine.specs.declared.program.Dest.{Dest}
 use Rattle.c_machine.specs.declared.program.Dest.TheVariants as dest
 use Rattle.c_machine.specs.declared.program.Action.{Action}
@@ -38,11 +37,11 @@ use Rattle.c_machine.specs.declared.program.Instr.{Instr}
 use Rattle.c_machine.specs.declared.program.Instr.TheVariants as instr
 use Rattle.c_machine.specs.declared.program.Function.{Function}
 use Rattle.c_machine.specs.declared.stepping.Frame.{Frame as Waiter}
-use Rattle.c_machine.specs.Steps.{Config, look, Reads, ReadsAll, Gave, Gives, Quits, performed, Move, Goes, Ends, delivered, sent, called, resumed, returned, turned, act, NeedsDest, NeedsFrames, Needs, instr_at}
-use Rattle.c_machine.specs.Decoded.{operand_of, operand_in, action_of, call_of, expr_instr, instr_of, instrs_of, code_of as instr_code, variables_of, variable_names, function_of, function_names}
-use Rattle.c_machine.proofs.Means.{meant, decoded, Callee, Callees, statements_of, last_of, names_in, Typed, AllTyped, wrap, flow_of, delivers, DestFits, config, Stands, Waits, Callers, Running, Giving, Means, steps_from, left_at, steps_at, steps_in, total, work, NeedsAt, act_at, Kept, Sound}
-use Rattle.c_machine.proofs.Places.{Front, front, code_in, function_there, instr_there, left_there, give_there, steps_le, steps_here, within_total, work_falls}
-use Rattle.c_machine.proofs.Typing.{slot_of, Fits, Slot, Holds, Reading, atom_reading, same_type_is, same_type_self, variable_at, set_env, put_holds}
+use Rattle.c_machine.specs.Steps.{Config, look, Gave, Gives, Quits, performed, delivered, sent, called, resumed, turned, act, NeedsDest, instr_at}
+use Rattle.c_machine.specs.Decoded.{operand_of, operand_in, action_of, call_of, expr_instr, instr_of, instrs_of, code_of as instr_code, variables_of, function_of, function_names}
+use Rattle.c_machine.proofs.Means.{meant, decoded, Callee, Callees, statements_of, last_of, names_in, AllTyped, wrap, flow_of, delivers, DestFits, config, Stands, Callers, Running, Giving, Means, left_at, steps_at, steps_in, total, work, Kept, Sound}
+use Rattle.c_machine.proofs.Places.{front, code_in, function_there, instr_there, left_there, give_there, steps_le, steps_here, within_total, work_falls}
+use Rattle.c_machine.proofs.Typing.{slot_of, Fits, Slot, Holds, atom_reading, same_type_is, same_type_self, variable_at, set_env, put_holds}
 use Rattle.c_machine.proofs.Operations.{Matches, Operated, operated, print_nothing}
 use Rattle.c_machine.proofs.Filled.{args_filled, args_read, entry_holds}
 

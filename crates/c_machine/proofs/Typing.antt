@@ -1,19 +1,19 @@
 -- What slots hold: the bits of cells that their types allow.
-use Rattle.std.proofs.Common.{◌≡◌, ℕ, zero, suc, ◌+◌, ◌-◌, ◌<◌, ◌≤◌, ◌^◌, Bool, true, false, cond, ◌&&◌, List, [], ◌∷◌, ◌++◌, length, Option, Some, None, slice_get, get_or, map, refl, sym, ap, subst, ◌∙◌, arith, ⊎_elim, get_or-set_same, get_or-set_other, if◌then◌else◌, length-append}
-use Rattle.std.specs.Prelude.{ℤ, pos, negsuc, IsTrue, find, slice_set, ◌==◌}
+use Rattle.std.proofs.Common.{◌≡◌, ℕ, suc, ◌+◌, ◌-◌, ◌<◌, ◌^◌, Bool, true, false, cond, List, [], ◌∷◌, ◌++◌, length, Option, Some, None, slice_get, get_or, refl, sym, ap, subst, ◌∙◌, arith, ⊎_elim, get_or-set_same, get_or-set_other, if◌then◌else◌, length-append}
+use Rattle.std.specs.Prelude.{ℤ, slice_set, ◌==◌}
 use Rattle.std.specs.Cmp.Lexicographic.{nat_list_eq_equiv}
-use Rattle.std.proofs.lemmas.List.{get_or-append-add, set-append_right, length-set, length-map}
+use Rattle.std.proofs.lemmas.List.{get_or-append-add, set-append_right, length-set}
 use Rattle.std.proofs.lemmas.Bool.{cases_eq, eq-eqb, ne_eqb}
 use Rattle.std.proofs.lemmas.Option.{slice_get_within}
-use Rattle.scheme_data.specs.Fixnum.{IsFixnum, is_fixnum, long_word, fixnum_word}
+use Rattle.scheme_data.specs.Fixnum.{IsFixnum, long_word}
 use Rattle.c_tree.specs.declared.tree.CTy.{CTy}
 use Rattle.c_tree.specs.declared.tree.CTy.TheVariants.{Obj, Long, Char, Int}
 use Rattle.c_tree.specs.declared.tree.CAtom.{CAtom}
 use Rattle.c_tree.specs.declared.tree.CAtom.TheVariants as atoms
 use Rattle.c_tree.specs.declared.tree.CVar.{CVar}
-use Rattle.c_meaning.specs.Word.{Word, Fixnum, False, True, Nil, Unspec, Eof, number_of}
+use Rattle.c_meaning.specs.Word.{Word, False, True, Nil, Unspec, Eof, number_of}
 use Rattle.c_meaning.specs.State.{Cell, AWord, ANumber, Frame, put}
-use Rattle.c_meaning.specs.Execution.{Names, is_same, position_of, atom}
+use Rattle.c_meaning.specs.Execution.{is_same, position_of, atom}
 use Rattle.c_meaning.specs.Checked.{same_type, number_fits, is_byte, is_typed, variable_named, atom_fits}
 use Rattle.c_machine.specs.declared.program.Operand.{Operand}
 use Rattle.c_machine.specs.declared.program.Operand.TheVariants as operand

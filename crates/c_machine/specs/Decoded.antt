@@ -1,5 +1,5 @@
 -- What a program is decoded to: names as numbers, one instruction a statement.
-use Rattle.std.specs.Prelude.{◌≡◌, ℕ, zero, suc, List, [], ◌∷◌, ◌++◌, map, codes, length, Option, Some, None, slice_get, pos, negsuc, Bool, true}
+use Rattle.std.specs.Prelude.{◌≡◌, ℕ, List, [], ◌∷◌, ◌++◌, map, codes, length, Option, Some, None, slice_get, Bool, true}
 use Rattle.std.specs.List.{list_all}
 use Rattle.scheme_data.specs.Fixnum.{long_word}
 use Rattle.prim_table.specs.declared.primitives.Primitive.TheVariants.{Add, Display, Newline}
@@ -11,7 +11,6 @@ use Rattle.c_tree.specs.declared.tree.CArg.{CArg}
 use Rattle.c_tree.specs.declared.tree.CArg.TheVariants as arg
 use Rattle.c_tree.specs.declared.tree.Callee.{Callee}
 use Rattle.c_tree.specs.declared.tree.Callee.TheVariants as callee
-use Rattle.c_tree.specs.declared.tree.CCall.{CCall}
 use Rattle.c_tree.specs.declared.tree.CExpr.{CExpr}
 use Rattle.c_tree.specs.declared.tree.CExpr.TheVariants as expr
 use Rattle.c_tree.specs.declared.tree.CStmt.{CStmt}

@@ -1,5 +1,5 @@
 -- One step of the machine, over lists.
-use Rattle.std.specs.Prelude.{◌≡◌, ℕ, zero, suc, ◌+◌, ◌<◌, ◌≤◌, ◌^◌, ◌%◌, List, [], ◌∷◌, ◌++◌, map, codes, Option, Some, None, ℤ, ◌+ℤ◌, nat_eq, if◌then◌else◌, length, slice_get, slice_index, slice_set, take, replicate}
+use Rattle.std.specs.Prelude.{◌≡◌, ℕ, zero, suc, ◌+◌, ◌<◌, ◌^◌, ◌%◌, List, [], ◌∷◌, ◌++◌, map, codes, Option, Some, None, ℤ, ◌+ℤ◌, nat_eq, if◌then◌else◌, length, slice_get, slice_index, slice_set, take, replicate}
 use Rattle.scheme_data.specs.Fixnum.{IsFixnum, is_fixnum, fixnum_word, long_word}
 use Rattle.base_io.specs.declared.end.End.{End}
 use Rattle.base_io.specs.declared.end.End.TheVariants.{Ended, Raised, Spent, Fault}

@@ -1,5 +1,5 @@
 -- Words and numbers as 64 bits.
-use Rattle.std.specs.Prelude.{ℕ, ◌+◌, ◌-◌, ◌*◌, ◌/◌, ◌%◌, ◌^◌, List, codes, nat_eq, nat_lt, ℤ, pos, negsuc, if◌then◌else◌}
+use Rattle.std.specs.Prelude.{ℕ, ◌+◌, ◌-◌, ◌/◌, ◌%◌, ◌^◌, List, codes, nat_eq, nat_lt, ℤ, pos, negsuc, if◌then◌else◌}
 use Rattle.scheme_data.specs.Decimal.{number_text}
 use Rattle.c_meaning.specs.Operations.{small}
 

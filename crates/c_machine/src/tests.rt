@@ -104,9 +104,9 @@ fn constant(shown: Shown) -> CAtom {
     }
 }
 
-fn raise(alloc: Global) -> Result<CCall, OutOfMemory> {
-    let mut call = operation(alloc, Op::Raise, CAtom::Int(10))?;
-    call.args.push(CArg::Str(Text::from_bytes(alloc, b"a")?))?;
+fn raise(alloc: Global, code: i64, text: &[u8]) -> Result<CCall, OutOfMemory> {
+    let mut call = operation(alloc, Op::Raise, CAtom::Int(code))?;
+    call.args.push(CArg::Str(Text::from_bytes(alloc, text)?))?;
     Ok(call)
 }
 
@@ -132,7 +132,7 @@ fn statements(alloc: Global, block: Block) -> Result<List<CStmt>, OutOfMemory> {
             let call = display(alloc, constant(shown))?;
             list.push(CStmt::Return(CExpr::Call(call)))?;
         }
-        Block::Raise => list.push(CStmt::Call(raise(alloc)?))?,
+        Block::Raise => list.push(CStmt::Call(raise(alloc, 10, b"a")?))?,
         Block::Give(a, b) => {
             push_sum(alloc, a, b, &mut list)?;
             list.push(CStmt::Return(CExpr::Atom(name(alloc, b"x2")?)))?;
@@ -185,6 +185,10 @@ fn machine(alloc: Global, block: Block) -> Result<Machine, OutOfMemory> {
     let mut items = List::new(alloc);
     items.push(function(alloc, block)?)?;
     items.push(main_function(alloc)?)?;
+    machine_of(alloc, items)
+}
+
+fn machine_of(alloc: Global, items: List<CItem>) -> Result<Machine, OutOfMemory> {
     match check(alloc, CProgram { items }) {
         Ok(checked) => Machine::new(alloc, checked),
         Err(_) => Err(OutOfMemory),
@@ -234,6 +238,171 @@ fn programs_print_and_end_as_the_rows_say(rt: HostRuntime) -> Result<(), OutOfMe
         let end = machine.run(turns, b"", &args, &mut sink);
         assert!(rt; end.is_ok_and(|e| is_wanted(&e, want)), "{block:?}");
         assert_eq!(rt; sink.bytes(), output, "{block:?}");
+    }
+    Ok(())
+}
+
+/// Functions that call one another, the first of which `main` calls.
+#[derive(Clone, Copy, Debug)]
+enum Calls {
+    /// Shows a newline, calls itself, and gives what that gives.
+    Itself,
+    /// Calls itself, and gives what that gives.
+    Silently,
+    /// Three functions in a row.
+    Chain,
+    /// Three functions in a row, the last of which raises an error.
+    Raising,
+}
+
+const FIRST: &[u8] = b"f_hello__first";
+
+const SECOND: &[u8] = b"f_hello__second";
+
+const THIRD: &[u8] = b"f_hello__third";
+
+fn function_call(alloc: Global, callee: &[u8], a: CAtom, b: CAtom) -> Result<CCall, OutOfMemory> {
+    let mut call = CCall {
+        callee: Callee::Fun(Text::from_bytes(alloc, callee)?),
+        args: List::new(alloc),
+    };
+    call.args.push(CArg::Atom(a))?;
+    call.args.push(CArg::Atom(b))?;
+    Ok(call)
+}
+
+// `x2 = callee(x1, x0);`
+fn swapped_call(alloc: Global, callee: &[u8]) -> Result<CStmt, OutOfMemory> {
+    let call = function_call(alloc, callee, name(alloc, b"x1")?, name(alloc, b"x0")?)?;
+    assign(alloc, b"x2", call)
+}
+
+fn show(alloc: Global, bytes: &[u8]) -> Result<CStmt, OutOfMemory> {
+    Ok(CStmt::Call(display(alloc, name(alloc, bytes)?)?))
+}
+
+fn give(alloc: Global, bytes: &[u8]) -> Result<CStmt, OutOfMemory> {
+    Ok(CStmt::Return(CExpr::Atom(name(alloc, bytes)?)))
+}
+
+// `obj callee(obj, obj);`
+fn declaration(alloc: Global, callee: &[u8]) -> Result<CItem, OutOfMemory> {
+    let mut params = List::new(alloc);
+    params.push(CTy::Obj)?;
+    params.push(CTy::Obj)?;
+    Ok(CItem::Declared(CTy::Obj, Text::from_bytes(alloc, callee)?, params))
+}
+
+// `obj callee(obj x0, obj x1) { obj x2; L0: for (;;) { .. } }`
+fn definition(alloc: Global, callee: &[u8], block: List<CStmt>) -> Result<CItem, OutOfMemory> {
+    let mut params = List::new(alloc);
+    params.push(variable(alloc, CTy::Obj, b"x0")?)?;
+    params.push(variable(alloc, CTy::Obj, b"x1")?)?;
+    let mut locals = List::new(alloc);
+    locals.push(variable(alloc, CTy::Obj, b"x2")?)?;
+    Ok(CItem::Defined(CFun {
+        result: CTy::Obj,
+        name: Text::from_bytes(alloc, callee)?,
+        params,
+        locals,
+        body: CBody::Looped(Text::from_bytes(alloc, b"L0")?, block),
+    }))
+}
+
+// Shows its parameters, calls a function with them in the other order, shows what that gives, and gives its first parameter.
+fn link(alloc: Global, callee: &[u8], next: &[u8]) -> Result<CItem, OutOfMemory> {
+    let mut block = List::new(alloc);
+    block.push(show(alloc, b"x0")?)?;
+    block.push(show(alloc, b"x1")?)?;
+    block.push(swapped_call(alloc, next)?)?;
+    block.push(show(alloc, b"x2")?)?;
+    block.push(give(alloc, b"x0")?)?;
+    definition(alloc, callee, block)
+}
+
+// Shows its parameters, and gives the first.
+fn last_link(alloc: Global) -> Result<CItem, OutOfMemory> {
+    let mut block = List::new(alloc);
+    block.push(show(alloc, b"x0")?)?;
+    block.push(show(alloc, b"x1")?)?;
+    block.push(give(alloc, b"x0")?)?;
+    definition(alloc, THIRD, block)
+}
+
+fn raising_link(alloc: Global) -> Result<CItem, OutOfMemory> {
+    let mut block = List::new(alloc);
+    block.push(CStmt::Call(raise(alloc, 2, b"1")?))?;
+    definition(alloc, THIRD, block)
+}
+
+fn push_itself(alloc: Global, shows: bool, items: &mut List<CItem>) -> Result<(), OutOfMemory> {
+    let mut block = List::new(alloc);
+    if shows {
+        let newline = no_argument(alloc, Op::Primitive(Primitive::Newline));
+        block.push(CStmt::Call(newline))?;
+    }
+    block.push(swapped_call(alloc, FIRST)?)?;
+    block.push(give(alloc, b"x2")?)?;
+    items.push(declaration(alloc, FIRST)?)?;
+    items.push(definition(alloc, FIRST, block)?)
+}
+
+fn push_chain(alloc: Global, last: CItem, items: &mut List<CItem>) -> Result<(), OutOfMemory> {
+    items.push(declaration(alloc, SECOND)?)?;
+    items.push(declaration(alloc, THIRD)?)?;
+    items.push(link(alloc, FIRST, SECOND)?)?;
+    items.push(link(alloc, SECOND, THIRD)?)?;
+    items.push(last)
+}
+
+// `int main(void) { obj x0; x0 = f_hello__first(BGL_TRUE, BGL_NIL); return bgl_status(x0); }`
+fn main_of_calls(alloc: Global) -> Result<CItem, OutOfMemory> {
+    let mut locals = List::new(alloc);
+    locals.push(variable(alloc, CTy::Obj, b"x0")?)?;
+    let mut body = List::new(alloc);
+    let call = function_call(alloc, FIRST, CAtom::True, CAtom::Nil)?;
+    body.push(assign(alloc, b"x0", call)?)?;
+    let status = operation(alloc, Op::Status, name(alloc, b"x0")?)?;
+    body.push(CStmt::Return(CExpr::Call(status)))?;
+    Ok(CItem::Defined(CFun {
+        result: CTy::Int,
+        name: Text::from_bytes(alloc, b"main")?,
+        params: List::new(alloc),
+        locals,
+        body: CBody::Straight(body),
+    }))
+}
+
+fn machine_of_calls(alloc: Global, calls: Calls) -> Result<Machine, OutOfMemory> {
+    let mut items = List::new(alloc);
+    match calls {
+        Calls::Itself => push_itself(alloc, true, &mut items)?,
+        Calls::Silently => push_itself(alloc, false, &mut items)?,
+        Calls::Chain => push_chain(alloc, last_link(alloc)?, &mut items)?,
+        Calls::Raising => push_chain(alloc, raising_link(alloc)?, &mut items)?,
+    }
+    items.push(main_of_calls(alloc)?)?;
+    machine_of(alloc, items)
+}
+
+#[test]
+fn calls_print_and_end_as_the_rows_say(rt: HostRuntime) -> Result<(), OutOfMemory> {
+    let alloc = rt.alloc();
+    let args = TextList::new(alloc);
+    let rows: [(Calls, u64, &[u8], Want); 6] = [
+        (Calls::Itself, 5, b"\n\n\n\n\n", Want::Spent),
+        (Calls::Silently, 100_000, b"", Want::Spent),
+        (Calls::Chain, 3, b"#t()()#t#t()#t()", Want::Ended(0)),
+        (Calls::Chain, 2, b"#t()()#t", Want::Spent),
+        (Calls::Raising, 3, b"#t()()#t", Want::Raised(2, b"1")),
+        (Calls::Raising, 2, b"#t()()#t", Want::Spent),
+    ];
+    for (calls, turns, output, want) in rows {
+        let mut machine = machine_of_calls(alloc, calls)?;
+        let mut sink = MemSink::new(alloc, 100, CallList::new(alloc))?;
+        let end = machine.run(turns, b"", &args, &mut sink);
+        assert!(rt; end.is_ok_and(|e| is_wanted(&e, want)), "{calls:?}");
+        assert_eq!(rt; sink.bytes(), output, "{calls:?}");
     }
     Ok(())
 }

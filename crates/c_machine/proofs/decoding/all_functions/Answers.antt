@@ -1,4 +1,4 @@
-use Rattle.std.proofs.Common.{◌≡◌, sym, ap, ◌∙◌}
+use Rattle.std.proofs.Common.{sym, ap, ◌∙◌}
 use Rattle.c_machine.specs.Decoded.{functions_of}
 use Rattle.c_machine.proofs.Definitions.{distinct_here, functions_more, no_definitions}
 use Rattle.c_machine.proofs.decoding.all_functions.Goals as goal

@@ -1,5 +1,4 @@
 use Rattle.c_machine.proofs.Checking.{has_names}
-use Rattle.c_machine.proofs.Runs.{begins}
 use Rattle.c_machine.proofs.decoding.decode.Goals as goal
 
 pub names_of_functions-requires : goal.names_of_functions-requires

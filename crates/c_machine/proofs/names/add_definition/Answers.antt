@@ -1,4 +1,4 @@
-use Rattle.std.proofs.Common.{◌≡◌, true, false, ◌++◌, [], ◌∷◌, subst, sym, ap, ◌∙◌}
+use Rattle.std.proofs.Common.{◌≡◌, true, ◌++◌, [], subst, ap, ◌∙◌}
 use Rattle.name_table.specs.Names.{has_name}
 use Rattle.c_tree.specs.declared.tree.CItem.{CItem}
 use Rattle.c_meaning.specs.Checked.{are_distinct}

@@ -1,4 +1,4 @@
-use Rattle.std.proofs.Common.{◌≡◌, ◌++◌, ◌∷◌, [], sym, ap, ◌∙◌}
+use Rattle.std.proofs.Common.{◌++◌, ◌∷◌, [], ap, ◌∙◌}
 use Rattle.name_table.specs.Names.{has_name}
 use Rattle.c_machine.proofs.Definitions.{variable_is_new, variables_more}
 use Rattle.c_machine.proofs.names.add_variables.Goals as goal

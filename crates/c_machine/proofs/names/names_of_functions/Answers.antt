@@ -1,4 +1,4 @@
-use Rattle.std.proofs.Common.{◌≡◌, sym, ap, ◌∙◌}
+use Rattle.std.proofs.Common.{sym, ap, ◌∙◌}
 use Rattle.c_machine.specs.Decoded.{function_names}
 use Rattle.c_machine.proofs.Definitions.{definition_is_new, names_more, no_definitions}
 use Rattle.c_machine.proofs.names.names_of_functions.Goals as goal

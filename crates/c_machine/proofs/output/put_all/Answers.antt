@@ -1,6 +1,6 @@
-use Rattle.std.proofs.Common.{ℕ, ◌-◌, ◌≤◌, length, drop, arith, length-drop}
+use Rattle.std.proofs.Common.{◌-◌, length, drop, arith, length-drop}
 use Rattle.std.proofs.lemmas.List.{length-take}
-use Rattle.c_machine.proofs.Sinks.{added_more, added_part, added_all}
+use Rattle.c_machine.proofs.Sinks.{added_more, added_part}
 use Rattle.c_machine.proofs.output.put_all.Goals as goal
 
 pub loop-at-preserved : goal.loop-at-preserved

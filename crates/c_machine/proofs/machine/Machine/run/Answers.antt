@@ -1,11 +1,9 @@
-use Rattle.std.proofs.Common.{ℕ, List, [], replicate, ap, ◌∙◌, sym, subst, arith, Option}
+use Rattle.std.proofs.Common.{ℕ, List, [], ap, sym, subst, arith}
 use Rattle.c_tree.specs.Code.{items_of}
 use Rattle.c_meaning.specs.Program.{cm}
-use Rattle.c_machine.specs.declared.program.Instr.{Instr}
 use Rattle.c_machine.specs.declared.stepping.Frame.{Frame}
 use Rattle.c_machine.specs.declared.stepping.Regs.{Regs}
-use Rattle.c_machine.specs.Steps.{Config, config_of}
-use Rattle.c_machine.specs.Decoded.{IsDecoded}
+use Rattle.c_machine.specs.Steps.{config_of}
 use Rattle.c_machine.proofs.Runs.{MeansIn, begins, begun, main_within, seen_through, instr_is_there, step_needs, step_goes, step_falls, step_ends, step_cannot_write, step_lacks_memory, ran_ok, ran_err}
 use Rattle.c_machine.proofs.machine.Machine.run.Goals as goal
 
