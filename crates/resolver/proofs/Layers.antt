@@ -1,6 +1,6 @@
 -- Data and nodes, one layer at a time, and lists of the wrong length.
-use Rattle.std.proofs.Common.{◌≡◌, ◌≢◌, ℕ, ◌<◌, List, [], ◌∷◌, map, length, Option, Some, None, refl, sym, ap, ◌∙◌, arith, rules}
-use Rattle.scheme_data.specs.Data.{Plain, Number, Symbol, Listed, Plains, none, more, plains, plain, plain_all}
+use Rattle.std.proofs.Common.{◌≡◌, ◌≢◌, List, [], ◌∷◌, map, length, Some, None, refl, sym, ap, ◌∙◌, arith, rules}
+use Rattle.scheme_data.specs.Data.{Plain, Number, Character, Truth, Unspecified, String, Symbol, Listed, Dotted, Vector, Plains, more, plains, plain, plain_all}
 use Rattle.scheme_data.specs.declared.datum.Place.{Place}
 use Rattle.scheme_data.specs.declared.datum.Datum.{Datum}
 use Rattle.scheme_data.specs.declared.datum.Datum as data_of
@@ -9,8 +9,9 @@ use Rattle.prim_table.specs.declared.primitives.Primitive.{Primitive as Builtin}
 use Rattle.core_tree.specs.declared.tree.Node.{Node}
 use Rattle.core_tree.specs.declared.tree.Node as node_of
 use Rattle.core_tree.specs.declared.tree.Node.TheVariants as node
-use Rattle.core_tree.specs.Tree.{Sequence, Primitive, trees, tree}
-use Rattle.resolver.specs.Elaboration.{main_clause, header, prototype, definition, elaborated}
+use Rattle.core_tree.specs.declared.tree.GlobalRef.{GlobalRef}
+use Rattle.core_tree.specs.Tree.{Sequence, Call, Primitive, trees, tree}
+use Rattle.resolver.specs.Elaboration.{main_clause, header}
 use Rattle.resolver.specs.Parts.{parts_of}
 
 plains_all : (ds : List Datum) → plains (map plain ds) ≡ plain_all ds
@@ -26,6 +27,9 @@ plain_list at ds = plain_layer at ds ∙ ap Listed (plains_all ds)
 pub tree_sequence : (ns : List Node) → tree (node.Sequence ns) ≡ Sequence (trees (map tree ns))
 tree_sequence ns = search (rules, node_of.the_lemmas)
 
+pub tree_call : (g : GlobalRef) (ns : List Node) → tree (node.Call g ns) ≡ Call g (trees (map tree ns))
+tree_call g ns = search (rules, node_of.the_lemmas)
+
 pub tree_primitive : (p : Builtin) (ns : List Node) → tree (node.Primitive p ns) ≡ Primitive p (trees (map tree ns))
 tree_primitive p ns = search (rules, node_of.the_lemmas)
 
@@ -35,6 +39,12 @@ list_parts at ds xs e = ap (λ ds. Some (plain_all ds)) e ∙ sym (ap parts_of (
 pub listed_is : (d : Plain) (ds : Plains) → Some ds ≡ parts_of d → d ≡ Listed ds
 listed_is (Number n) ds e = absurd (cc)
 listed_is (Symbol name mark) ds e = absurd (cc)
+listed_is (Character b) ds e = absurd (cc)
+listed_is (Truth t) ds e = absurd (cc)
+listed_is Unspecified ds e = absurd (cc)
+listed_is (String text) ds e = absurd (cc)
+listed_is (Dotted es tail) ds e = absurd (cc)
+listed_is (Vector es) ds e = absurd (cc)
 listed_is (Listed es) ds e = let same : ds ≡ es = cc in ap Listed (sym same)
 
 main_not_two : (ds : List Datum) → length ds ≢ 2 → main_clause (Listed (plain_all ds)) ≡ None
@@ -46,15 +56,6 @@ main_not_two (a ∷ b ∷ c ∷ ds) n = refl
 pub main_wrong : (d : Plain) (ds : List Datum) → Some (plain_all ds) ≡ parts_of d → length ds ≢ 2 → None ≡ main_clause d
 main_wrong d ds e n = sym (ap main_clause (listed_is d (plain_all ds) e) ∙ main_not_two ds n)
 
-prototype_not_two : (ds : List Datum) → length ds ≢ 2 → prototype (Listed (plain_all ds)) ≡ None
-prototype_not_two [] n = refl
-prototype_not_two (a ∷ []) n = refl
-prototype_not_two (a ∷ b ∷ []) n = absurd (n (omega arith))
-prototype_not_two (a ∷ b ∷ c ∷ ds) n = refl
-
-pub prototype_wrong : (d : Plain) (ds : List Datum) → Some (plain_all ds) ≡ parts_of d → length ds ≢ 2 → None ≡ prototype d
-prototype_wrong d ds e n = sym (ap prototype (listed_is d (plain_all ds) e) ∙ prototype_not_two ds n)
-
 header_not_three : (ds : List Datum) → length ds ≢ 3 → header (Listed (plain_all ds)) ≡ None
 header_not_three [] n = refl
 header_not_three (a ∷ []) n = refl
@@ -64,18 +65,3 @@ header_not_three (a ∷ b ∷ c ∷ d ∷ ds) n = refl
 
 pub header_wrong : (d : Plain) (ds : List Datum) → Some (plain_all ds) ≡ parts_of d → length ds ≢ 3 → None ≡ header d
 header_wrong d ds e n = sym (ap header (listed_is d (plain_all ds) e) ∙ header_not_three ds n)
-
-definition_below_two : (ds : List Datum) → length ds < 2 → definition (Listed (plain_all ds)) ≡ None
-definition_below_two [] n = refl
-definition_below_two (a ∷ []) n = refl
-definition_below_two (a ∷ b ∷ ds) n = absurd (omega arith)
-
-pub definition_wrong : (d : Plain) (ds : List Datum) → Some (plain_all ds) ≡ parts_of d → length ds < 2 → None ≡ definition d
-definition_wrong d ds e n = sym (ap definition (listed_is d (plain_all ds) e) ∙ definition_below_two ds n)
-
-pub module_wrong : (ds : List Datum) → length ds ≢ 2 → None ≡ elaborated (plain_all ds)
-unfolding elaborated
-module_wrong [] n = refl
-module_wrong (a ∷ []) n = refl
-module_wrong (a ∷ b ∷ []) n = absurd (n (omega arith))
-module_wrong (a ∷ b ∷ c ∷ ds) n = refl

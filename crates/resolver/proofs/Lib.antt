@@ -1,5 +1,8 @@
 pub mod Calls
 pub mod Formed
-pub mod Forms
 pub mod Layers
+pub mod Lists
+pub mod Modules
+pub mod Numbers
+pub mod Tables
 pub mod TypedNames

@@ -1,27 +1,44 @@
 -- What the parts of the resolver give.
-use Rattle.std.specs.Prelude.{ℕ, List, map, Option, Some, None}
-use Rattle.scheme_data.specs.Data.{Plain, Number, Symbol, Listed, Plains}
+use Rattle.std.specs.Prelude.{ℕ, zero, suc, List, [], ◌∷◌, map, Option, Some, None, if◌then◌else◌}
+use Rattle.scheme_data.specs.Data.{Plain, Listed, Plains, plain_all}
 use Rattle.core_tree.specs.declared.tree.Node.{Node}
-use Rattle.core_tree.specs.Tree.{Trees, trees, tree, FunctionTree}
-use Rattle.resolver.specs.declared.resolve.Header.{Header}
-use Rattle.resolver.specs.declared.resolve.Function.{Function}
-use Rattle.resolver.specs.Elaboration.{Prototype}
-use Rattle.resolver.specs.Elaboration as plain_header
+use Rattle.core_tree.specs.declared.tree.VarId.{VarId}
+use Rattle.core_tree.specs.Tree.{Trees, trees, tree}
+use Rattle.resolver.specs.declared.header.Header.{Header}
+use Rattle.resolver.specs.declared.definitions.Definition.{Definition}
+use Rattle.resolver.specs.declared.scope.Scope.{Scope}
+use Rattle.resolver.specs.declared.scope.Operator.{Operator}
+use Rattle.resolver.specs.declared.scope.Operator.TheVariants as operator
+use Rattle.resolver.specs.Elaboration.{are_distinct}
+use Rattle.resolver.specs.Elaboration as plain
 
--- the parts of a list
+-- the parts of a list; a dotted list is none
 abbrev pub parts_of : Plain → Option Plains
-parts_of (Number n) = None
-parts_of (Symbol name mark) = None
 parts_of (Listed ds) = Some ds
+parts_of _ = None
 
 abbrev pub node_trees : List Node → Trees
 node_trees ns = trees (map tree ns)
 
-abbrev pub header_of : Header → plain_header.Header
+abbrev pub header_of : Header → plain.Header
 header_of h = record { name = h.name; main = h.main }
 
-abbrev pub function_of : Function → FunctionTree
-function_of f = record { name = f.name; params = f.lambda.params; body = tree f.lambda.body }
+abbrev pub definition_of : Definition → plain.Definition
+definition_of d = record { name = d.name.now; params = d.params; body = plain_all d.body.now }
 
-abbrev pub prototype_name : Prototype → List ℕ
-prototype_name p = p.name
+abbrev pub scope_of : Scope → plain.Scope
+scope_of s = record { functions = s.functions.now; params = s.params.now; first = s.first; in_main = s.in_main }
+
+abbrev pub operator_of : Operator → plain.Operator
+operator_of (operator.Function n) = plain.Function n
+operator_of (operator.Builtin p) = plain.Builtins p
+
+-- names of which none stands twice
+abbrev pub distinct : Option (List (List ℕ)) → Option (List (List ℕ))
+distinct None = None
+distinct (Some xs) = if are_distinct xs then Some xs else None
+
+-- so many variables, in order of their numbers
+abbrev pub numbered_from : ℕ → ℕ → List VarId
+numbered_from first zero = []
+numbered_from first (suc n) = record { 0 = first } ∷ numbered_from (suc first) n

@@ -1,9 +1,12 @@
 //! Makes the tree of a module from its data.
 #![tactic(auto)]
 
-mod expressions;
+mod definitions;
+mod functions;
+mod header;
 mod names;
 mod resolve;
+mod scope;
 mod shapes;
 
 pub use resolve::resolve_module;

@@ -12,20 +12,18 @@ pub fn symbol(d: &Datum) -> Option<&Text>
     ensures { option_copied result ≡ symbol_of (plain d.now) }
 {
     match d {
-        Datum::Int(_, _) => None,
         Datum::Sym(_, name, _) => Some(name),
-        Datum::List(_, _) => None,
+        _ => None,
     }
 }
 
-/// The parts of a list.
+/// The parts of a list; a dotted list is none.
 pub fn parts(d: &Datum) -> Option<&[Datum]>
     ensures { option_map plain_all (option_copied result) ≡ parts_of (plain d.now) }
 {
     match d {
-        Datum::Int(_, _) => None,
-        Datum::Sym(_, _, _) => None,
         Datum::List(_, ds) => Some(ds.as_slice()),
+        _ => None,
     }
 }
 

@@ -8,34 +8,21 @@ fn builds(rt: &HostRuntime, text: &[u8]) -> Result<bool, ReadErr> {
     Ok(resolve_module(rt.alloc(), data.as_slice())?.is_some())
 }
 
-/// A module whose function has this name, this parameter and this body.
-fn module(rt: &HostRuntime, f: &[u8], x: &[u8], body: &[u8]) -> Result<Text, OutOfMemory> {
-    let mut text = Text::from_bytes(rt.alloc(), b"(module m (main ")?;
-    text.extend(f)?;
-    text.extend(b")) (define (")?;
-    text.extend(f)?;
-    text.extend(b" ")?;
-    text.extend(x)?;
-    text.extend(b") ")?;
-    text.extend(body)?;
-    text.extend(b")")?;
-    Ok(text)
-}
-
-fn body_builds(rt: &HostRuntime, body: &[u8]) -> Result<bool, ReadErr> {
-    builds(rt, module(rt, b"f", b"x", body)?.as_bytes())
-}
-
-fn prototype_builds(rt: &HostRuntime, f: &[u8], x: &[u8]) -> Result<bool, ReadErr> {
-    builds(rt, module(rt, f, x, b"1")?.as_bytes())
-}
-
 #[test]
 fn modules_are_built(rt: HostRuntime) -> Result<(), ReadErr> {
     for text in [
         b"(module hello (main go)) (define (go args) (display (+ 40 2)) (newline))".as_slice(),
         b"(module m (main f)) (define (f f) 1)".as_slice(),
         b"(module m (main f:x)) (define (f:x if) (+ (+ 1 2) (newline)))".as_slice(),
+        b"(module m (main f)) (define (f x) 1) (define (g) 2)".as_slice(),
+        b"(module m (main f)) (define (g x y) (+ x y)) (define (f a) (g 1 (g 2 3)))".as_slice(),
+        b"(module m (main f)) (define (f a) (g)) (define (g) (h 1 2 3)) (define (h x y z) y z)".as_slice(),
+        b"(module m (main f)) (define (f a) (g 1)) (define (g x) (g (g x)))".as_slice(),
+        b"(module m (main f)) (define (f a) (f 1))".as_slice(),
+        b"(module m (main f)) (define (f a) 1) (define (g f) f)".as_slice(),
+        b"(module m (main f)) (define (f a) (g) (g 1) (g 1 2)) (define (g x) x)".as_slice(),
+        b"(module . (m (main f))) (define (f . (a)) . (1))".as_slice(),
+        b"; f\n(module m #| (main g) #| |# |# (main f)) (define (f a) 1 ; 2\n) #|)|#".as_slice(),
     ] {
         assert!(rt; builds(&rt, text)?);
     }
@@ -54,18 +41,44 @@ fn other_forms_are_refused(rt: HostRuntime) -> Result<(), ReadErr> {
         b"(module m::obj (main f)) (define (f x) 1)".as_slice(),
         b"(module m (main f)) (define f 1)".as_slice(),
         b"(module m (main f)) (define (f x y) 1)".as_slice(),
+        b"(module m (main f)) (define (f) 1)".as_slice(),
+        b"(module m (main f)) (define (f x) 1) (define (f x) 1)".as_slice(),
+        b"(module m (main f)) (define (f x) 1) (define (g) 1) (define (g y) 2)".as_slice(),
+        b"(module m (main f)) (define (f x) 1) (define (g x y x) 1)".as_slice(),
+        b"(module m (main f)) (define (f x) 1) #t".as_slice(),
+        b"(module m (main f)) (define (f . x) 1)".as_slice(),
+        b"(module m (main f)) (define (f x) . (1 . 2))".as_slice(),
+        b"(module m . #((main f))) (define (f x) 1)".as_slice(),
     ] {
         assert!(rt; !builds(&rt, text)?);
     }
     Ok(())
 }
 
+/// Whether this is a body of `g`, whose parameters are `x` and `f`, in a module with the main function `f` and a function `h`.
+fn body_builds(rt: &HostRuntime, body: &[u8]) -> Result<bool, ReadErr> {
+    let mut text = Text::from_bytes(
+        rt.alloc(),
+        b"(module m (main f)) (define (f a) 1) (define (h) 1) (define (g x f) ",
+    )?;
+    text.extend(body)?;
+    text.extend(b")")?;
+    builds(rt, text.as_bytes())
+}
+
 #[test]
 fn other_bodies_are_refused(rt: HostRuntime) -> Result<(), ReadErr> {
     for body in [
         b"".as_slice(),
-        b"x".as_slice(),
-        b"1 (display x)".as_slice(),
+        b"y".as_slice(),
+        b"h".as_slice(),
+        b"g".as_slice(),
+        b"display".as_slice(),
+        b"1 (display y)".as_slice(),
+        b"(f 1)".as_slice(),
+        b"(x)".as_slice(),
+        b"((h))".as_slice(),
+        b"(k 1)".as_slice(),
         b"(lambda (x) x)".as_slice(),
         b"(+ 1)".as_slice(),
         b"(+ 1 2 3)".as_slice(),
@@ -73,15 +86,57 @@ fn other_bodies_are_refused(rt: HostRuntime) -> Result<(), ReadErr> {
         b"(newline 1)".as_slice(),
         b"()".as_slice(),
         b"(< 1 2)".as_slice(),
+        b"#t".as_slice(),
+        b"#unspecified".as_slice(),
+        b"#\\a".as_slice(),
+        b"\"a\"".as_slice(),
+        b"#(1)".as_slice(),
+        b"(f . 1)".as_slice(),
+        b"(display #f)".as_slice(),
     ] {
         assert!(rt; !body_builds(&rt, body)?);
+    }
+    for body in [
+        b"x".as_slice(),
+        b"f".as_slice(),
+        b"(display f)".as_slice(),
+        b"(h x) (g f x)",
+    ] {
+        assert!(rt; body_builds(&rt, body)?);
     }
     Ok(())
 }
 
 #[test]
+fn the_parameter_of_the_main_function_is_not_used(rt: HostRuntime) -> Result<(), ReadErr> {
+    for text in [
+        b"(module m (main f)) (define (f x) x)".as_slice(),
+        b"(module m (main f)) (define (f x) (display x))".as_slice(),
+        b"(module m (main f)) (define (f f) (f 1))".as_slice(),
+    ] {
+        assert!(rt; !builds(&rt, text)?);
+    }
+    Ok(())
+}
+
+/// Whether a function may have this name and this parameter.
+fn prototype_builds(rt: &HostRuntime, f: &[u8], x: &[u8]) -> Result<bool, ReadErr> {
+    let mut text = Text::from_bytes(
+        rt.alloc(),
+        b"(module m (main go)) (define (go a) 1) (define (",
+    )?;
+    text.extend(f)?;
+    text.extend(b" y ")?;
+    text.extend(x)?;
+    text.extend(b") 1)")?;
+    builds(rt, text.as_bytes())
+}
+
+#[test]
 fn some_names_are_refused(rt: HostRuntime) -> Result<(), ReadErr> {
+    assert!(rt; prototype_builds(&rt, b"f", b"x")?);
     for f in [
+        b"go".as_slice(),
         b"display".as_slice(),
         b"<".as_slice(),
         b"if".as_slice(),
@@ -90,7 +145,13 @@ fn some_names_are_refused(rt: HostRuntime) -> Result<(), ReadErr> {
     ] {
         assert!(rt; !prototype_builds(&rt, f, b"x")?);
     }
-    for x in [b"x::long".as_slice(), b"+".as_slice(), b"<".as_slice()] {
+    for x in [
+        b"x::long".as_slice(),
+        b"+".as_slice(),
+        b"<".as_slice(),
+        b"y".as_slice(),
+        b"1".as_slice(),
+    ] {
         assert!(rt; !prototype_builds(&rt, b"f", x)?);
     }
     Ok(())

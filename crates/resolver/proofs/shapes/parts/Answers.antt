@@ -1,4 +1,3 @@
-use Rattle.std.proofs.Common.{refl}
 use Rattle.resolver.proofs.Layers.{list_parts}
 use Rattle.resolver.proofs.shapes.parts.Goals as goal
 

@@ -1,0 +1,171 @@
+-- Tables of names of which none stands twice.
+use Rattle.std.proofs.Common.{◌≡◌, ℕ, ◌+◌, ◌<◌, ◌≤◌, Bool, true, false, not, ◌&&◌, ◌||◌, if◌then◌else◌, List, [], ◌∷◌, ◌++◌, map, length, drop, get_or, Option, Some, None, refl, sym, ap, ◌∙◌, append_assoc}
+use Rattle.std.proofs.lemmas.List.{append-nil, drop_more, drop_all}
+use Rattle.std.proofs.lemmas.List.Folds.{list_any-append}
+use Rattle.std.specs.List.{list_any}
+use Rattle.std.specs.Cmp.Lexicographic.{nat_list_eq_equiv}
+use Rattle.scheme_data.specs.Data.{plain, plain_all}
+use Rattle.scheme_data.specs.declared.datum.Datum.{Datum}
+use Rattle.resolver.specs.declared.definitions.Definition.{Definition}
+use Rattle.resolver.specs.Elaboration.{is_word, symbol_of, is_bound_name, are_distinct, onto_names, names, function_names}
+use Rattle.resolver.specs.Parts.{distinct, definition_of}
+use Rattle.resolver.proofs.Lists.{ahead, ahead_all}
+
+and_false : (b : Bool) → (b && false) ≡ false
+and_false true = refl
+and_false false = refl
+
+or_true : (b : Bool) → (b || true) ≡ true
+or_true true = refl
+or_true false = refl
+
+pub and_parts : (a b : Bool) → (a && b) ≡ true → (a ≡ true) × (b ≡ true)
+and_parts true b e = (refl, e)
+and_parts false b e = absurd (cc)
+
+or_parts : (a b : Bool) → (a || b) ≡ false → (a ≡ false) × (b ≡ false)
+or_parts true b e = absurd (cc)
+or_parts false b e = (refl, e)
+
+not_true : (b : Bool) → not b ≡ true → b ≡ false
+not_true true e = absurd (cc)
+not_true false e = refl
+
+-- a name that is there already
+twice_here : (z : List ℕ) (zs : List (List ℕ)) (x : List ℕ) (ys : List (List ℕ)) → is_word x z ≡ true → are_distinct (z ∷ zs ++ x ∷ ys) ≡ false
+twice_here z zs x ys e =
+    let same : is_word z x ≡ true = nat_list_eq_equiv.symm z x ∙ e in
+    let there : list_any (is_word z) (zs ++ x ∷ ys) ≡ true =
+    list_any-append (is_word z) zs (x ∷ ys) ∙ ap (λ b. list_any (is_word z) zs || (b || list_any (is_word z) ys)) same ∙ or_true (list_any (is_word z) zs) in
+    ap (λ b. not b && are_distinct (zs ++ x ∷ ys)) there
+
+twice : (xs : List (List ℕ)) (x : List ℕ) (ys : List (List ℕ)) → list_any (is_word x) xs ≡ true → are_distinct (xs ++ x ∷ ys) ≡ false
+twice [] x ys h = absurd (cc)
+twice (z ∷ zs) x ys h = go (is_word x z) refl (twice zs x ys)
+  where
+    go : (b : Bool) → is_word x z ≡ b → (list_any (is_word x) zs ≡ true → are_distinct (zs ++ x ∷ ys) ≡ false) → are_distinct ((z ∷ zs) ++ x ∷ ys) ≡ false
+    go true e later = twice_here z zs x ys e
+    go false e later =
+        let there : list_any (is_word x) zs ≡ true = ap (λ b. b || list_any (is_word x) zs) (sym e) ∙ h in
+        ap (λ b. not (list_any (is_word z) (zs ++ x ∷ ys)) && b) (later there) ∙ and_false (not (list_any (is_word z) (zs ++ x ∷ ys)))
+
+-- a new name goes last
+added : (xs : List (List ℕ)) (x : List ℕ) → are_distinct xs ≡ true → list_any (is_word x) xs ≡ false → are_distinct (xs ++ x ∷ []) ≡ true
+added [] x d n = refl
+added (z ∷ zs) x d n =
+    let old = and_parts (not (list_any (is_word z) zs)) (are_distinct zs) d in
+    let new = or_parts (is_word x z) (list_any (is_word x) zs) n in
+    let other : is_word z x ≡ false = nat_list_eq_equiv.symm z x ∙ new.0 in
+    let new_name : list_any (is_word z) (zs ++ x ∷ []) ≡ false =
+    list_any-append (is_word z) zs (x ∷ []) ∙ ap (λ b. b || (is_word z x || false)) (not_true (list_any (is_word z) zs) old.0) ∙ ap (λ b. b || false) other in
+    ap (λ b. not b && are_distinct (zs ++ x ∷ [])) new_name ∙ added zs x old.1 new.1
+
+not_true_of : (b : Bool) → false ≡ not b → b ≡ true
+not_true_of true e = refl
+not_true_of false e = absurd (cc)
+
+-- what an insertion answers
+pub there : (b : Bool) (xs : List (List ℕ)) (x : List ℕ) → b ≡ not (list_any (is_word x) xs) → b ≡ false → list_any (is_word x) xs ≡ true
+there b xs x e h = not_true_of (list_any (is_word x) xs) (sym h ∙ e)
+
+pub absent : (b : Bool) (xs : List (List ℕ)) (x : List ℕ) → b ≡ not (list_any (is_word x) xs) → b ≡ true → list_any (is_word x) xs ≡ false
+absent b xs x e h = not_true (list_any (is_word x) xs) (sym e ∙ h)
+
+pub inserted : (b : Bool) (xs ys : List (List ℕ)) (x : List ℕ) → ys ≡ (if b then xs ++ x ∷ [] else xs) → b ≡ true → ys ≡ xs ++ x ∷ []
+inserted b xs ys x e h = e ∙ ap (λ b. if b then xs ++ x ∷ [] else xs) h
+
+distinct_where : (xs : List (List ℕ)) (t : Bool) → are_distinct xs ≡ t → distinct (Some xs) ≡ (if t then Some xs else None)
+distinct_where xs t e = ap (λ t. if t then Some xs else None) e
+
+-- Parameters --------------------------------------------------------------------------------
+
+-- these names are read, and none of them stands twice
+pub record IsRead (ds : List Datum) (xs : List (List ℕ)) (i : ℕ) : Type 0 where
+  pub none_twice : are_distinct xs ≡ true
+  pub so_far : names (plain_all ds) ≡ ahead xs (names (plain_all (drop i ds)))
+
+names_next : (ds : List Datum) (xs : List (List ℕ)) (i : ℕ) (d : Datum) → i < length ds → d ≡ get_or ds i d → IsRead ds xs i
+    → names (plain_all ds) ≡ ahead xs (onto_names (symbol_of (plain d)) (names (plain_all (drop (i + 1) ds))))
+names_next ds xs i d l e h =
+    h.so_far ∙ ap (λ (ds : List Datum). ahead xs (names (plain_all ds))) (drop_more ds i d l)
+    ∙ ap (λ (d : Datum). ahead xs (onto_names (symbol_of (plain d)) (names (plain_all (drop (i + 1) ds))))) (sym e)
+
+pub not_a_name : (ds : List Datum) (xs : List (List ℕ)) (i : ℕ) (d : Datum) → i < length ds → d ≡ get_or ds i d → IsRead ds xs i
+    → None ≡ symbol_of (plain d) → None ≡ distinct (names (plain_all ds))
+not_a_name ds xs i d l e h n =
+    sym (ap distinct (names_next ds xs i d l e h ∙ ap (λ o. ahead xs (onto_names o (names (plain_all (drop (i + 1) ds))))) (sym n)))
+
+onto_where : (x : List ℕ) (o : Option (List (List ℕ))) (t : Bool) → is_bound_name x ≡ t → onto_names (Some x) o ≡ (if t then ahead (x ∷ []) o else None)
+onto_where x None true e = refl
+onto_where x None false e = refl
+onto_where x (Some ys) t e = ap (λ t. if t then Some (x ∷ ys) else None) e ∙ last t
+  where
+    last : (t : Bool) → (if t then Some (x ∷ ys) else None) ≡ (if t then ahead (x ∷ []) (Some ys) else None)
+    last true = refl
+    last false = refl
+
+next_name : (ds : List Datum) (xs : List (List ℕ)) (i : ℕ) (d : Datum) (x : List ℕ) (t : Bool) → i < length ds → d ≡ get_or ds i d → IsRead ds xs i
+    → Some x ≡ symbol_of (plain d) → is_bound_name x ≡ t → names (plain_all ds) ≡ ahead xs (if t then ahead (x ∷ []) (names (plain_all (drop (i + 1) ds))) else None)
+next_name ds xs i d x t l e h n b =
+    names_next ds xs i d l e h ∙ ap (λ o. ahead xs (onto_names o (names (plain_all (drop (i + 1) ds))))) (sym n)
+    ∙ ap (ahead xs) (onto_where x (names (plain_all (drop (i + 1) ds))) t b)
+
+pub not_bound : (ds : List Datum) (xs : List (List ℕ)) (i : ℕ) (d : Datum) (x : List ℕ) → i < length ds → d ≡ get_or ds i d → IsRead ds xs i
+    → Some x ≡ symbol_of (plain d) → is_bound_name x ≡ false → None ≡ distinct (names (plain_all ds))
+not_bound ds xs i d x l e h n b = sym (ap distinct (next_name ds xs i d x false l e h n b))
+
+pub read_twice : (ds : List Datum) (xs : List (List ℕ)) (i : ℕ) (d : Datum) (x : List ℕ) → i < length ds → d ≡ get_or ds i d → IsRead ds xs i
+    → Some x ≡ symbol_of (plain d) → is_bound_name x ≡ true → list_any (is_word x) xs ≡ true → None ≡ distinct (names (plain_all ds))
+read_twice ds xs i d x l e h n b t =
+    sym (ap distinct (next_name ds xs i d x true l e h n b) ∙ go (names (plain_all (drop (i + 1) ds))))
+  where
+    go : (o : Option (List (List ℕ))) → distinct (ahead xs (ahead (x ∷ []) o)) ≡ None
+    go None = refl
+    go (Some ys) = distinct_where (xs ++ x ∷ ys) false (twice xs x ys t)
+
+pub read_more : (ds : List Datum) (xs ys : List (List ℕ)) (i : ℕ) (d : Datum) (x : List ℕ) → i < length ds → d ≡ get_or ds i d → IsRead ds xs i
+    → Some x ≡ symbol_of (plain d) → is_bound_name x ≡ true → list_any (is_word x) xs ≡ false → ys ≡ xs ++ x ∷ [] → IsRead ds ys (i + 1)
+read_more ds xs ys i d x l e h n b t y = record {
+  none_twice = ap are_distinct y ∙ added xs x h.none_twice t;
+  so_far = next_name ds xs i d x true l e h n b ∙ go (names (plain_all (drop (i + 1) ds))) ∙ ap (λ ys. ahead ys (names (plain_all (drop (i + 1) ds)))) (sym y);
+}
+  where
+    go : (o : Option (List (List ℕ))) → ahead xs (ahead (x ∷ []) o) ≡ ahead (xs ++ x ∷ []) o
+    go None = refl
+    go (Some zs) = ap Some (sym (append_assoc xs (x ∷ []) zs))
+
+pub read_all : (ds : List Datum) (xs : List (List ℕ)) (i : ℕ) → length ds ≤ i → IsRead ds xs i → Some xs ≡ distinct (names (plain_all ds))
+read_all ds xs i l h =
+    sym (ap distinct (h.so_far ∙ ap (λ (ds : List Datum). ahead xs (names (plain_all ds))) (drop_all i ds l) ∙ sym (ahead_all xs)) ∙ distinct_where xs true h.none_twice)
+
+-- Functions ---------------------------------------------------------------------------------
+
+-- the names of these functions are listed, and none of them stands twice
+pub record IsListed (ds : List Definition) (xs : List (List ℕ)) (i : ℕ) : Type 0 where
+  pub none_twice : are_distinct xs ≡ true
+  pub so_far : function_names (map definition_of ds) ≡ xs ++ function_names (map definition_of (drop i ds))
+
+listed_next : (ds : List Definition) (xs : List (List ℕ)) (i : ℕ) (d : Definition) → i < length ds → d ≡ get_or ds i d → IsListed ds xs i
+    → function_names (map definition_of ds) ≡ xs ++ d.name.now ∷ function_names (map definition_of (drop (i + 1) ds))
+listed_next ds xs i d l e h =
+    h.so_far ∙ ap (λ (ds : List Definition). xs ++ function_names (map definition_of ds)) (drop_more ds i d l)
+    ∙ ap (λ (d : Definition). xs ++ d.name.now ∷ function_names (map definition_of (drop (i + 1) ds))) (sym e)
+
+pub listed_twice : (ds : List Definition) (xs : List (List ℕ)) (i : ℕ) (d : Definition) → i < length ds → d ≡ get_or ds i d → IsListed ds xs i
+    → list_any (is_word d.name.now) xs ≡ true → None ≡ distinct (Some (function_names (map definition_of ds)))
+listed_twice ds xs i d l e h t =
+    let rest = function_names (map definition_of (drop (i + 1) ds)) in
+    sym (ap (λ xs. distinct (Some xs)) (listed_next ds xs i d l e h) ∙ distinct_where (xs ++ d.name.now ∷ rest) false (twice xs d.name.now rest t))
+
+pub listed_more : (ds : List Definition) (xs ys : List (List ℕ)) (i : ℕ) (d : Definition) → i < length ds → d ≡ get_or ds i d → IsListed ds xs i
+    → list_any (is_word d.name.now) xs ≡ false → ys ≡ xs ++ d.name.now ∷ [] → IsListed ds ys (i + 1)
+listed_more ds xs ys i d l e h t y = record {
+  none_twice = ap are_distinct y ∙ added xs d.name.now h.none_twice t;
+  so_far = listed_next ds xs i d l e h ∙ sym (append_assoc xs (d.name.now ∷ []) (function_names (map definition_of (drop (i + 1) ds))))
+      ∙ ap (λ ys. ys ++ function_names (map definition_of (drop (i + 1) ds))) (sym y);
+}
+
+pub listed_all : (ds : List Definition) (xs : List (List ℕ)) (i : ℕ) → length ds ≤ i → IsListed ds xs i → Some xs ≡ distinct (Some (function_names (map definition_of ds)))
+listed_all ds xs i l h =
+    sym (ap (λ xs. distinct (Some xs)) (h.so_far ∙ ap (λ (ds : List Definition). xs ++ function_names (map definition_of ds)) (drop_all i ds l) ∙ append-nil xs)
+    ∙ distinct_where xs true h.none_twice)

@@ -1,0 +1,165 @@
+ghost use Rattle.std.specs.Prelude.{◌≡◌, ◌+◌, length, IfOk, Some};
+ghost use Rattle.std.specs.Option.{option_map};
+ghost use Rattle.scheme_data.specs.Data.{plain, plain_all};
+ghost use Rattle.prim_table.specs.Table.{params_of, prim_named};
+ghost use Rattle.core_tree.specs.Tree.{tree};
+ghost use Rattle.resolver.specs.Elaboration.{symbol_of, place_of, taking, variable, global_operator, operator, applied, expression, expressions, non_empty, body};
+ghost use Rattle.resolver.specs.Parts.{node_trees, scope_of, operator_of};
+
+use crate::shapes::symbol;
+use core_tree::{Const, GlobalRef, Node, VarId};
+use name_table::NameTable;
+use prim_table::{Primitive, prim_by_name};
+use scheme_data::{Datum, OutOfMemory};
+use sqlite_items::Items;
+use std::alloc::Global;
+
+/// What a function's expressions see: the functions of the module, the function's parameters, the number of the first of these, and whether it is the main function.
+#[derive(Clone, Copy)]
+pub struct Scope<'a> {
+    pub alloc: Global,
+    pub functions: &'a NameTable,
+    pub params: &'a NameTable,
+    pub first: u32,
+    pub in_main: bool,
+}
+
+/// What is called: a function of the module, by its number, or a primitive.
+#[derive(Clone, Copy, Debug)]
+pub enum Operator {
+    Function(u32),
+    Builtin(Primitive),
+}
+
+/// The number that is so many after another; want of memory where that is no number of 32 bits.
+pub fn number_after(first: u32, more: usize) -> Result<u32, OutOfMemory>
+    ensures { IfOk result (λ n. n ≡ first + more) }
+{
+    let more = u32::try_from(more).ok().ok_or(OutOfMemory)?;
+    first.checked_add(more).ok_or(OutOfMemory)
+}
+
+/// How many arguments a primitive takes.
+fn arity(p: Primitive) -> usize
+    ensures { result ≡ length (params_of p) }
+{
+    match p {
+        Primitive::Add => 2,
+        Primitive::Display => 1,
+        Primitive::Newline => 0,
+    }
+}
+
+/// The primitive of a name, where it takes so many arguments.
+fn primitive(name: &[u8], args: usize) -> Option<Primitive>
+    ensures { result ≡ taking args (prim_named name.now) }
+{
+    let p = prim_by_name(name)?;
+    if args == arity(p) { Some(p) } else { None }
+}
+
+fn call_of(operator: Operator, args: Items<Node>) -> Node
+    ensures { Some (tree result) ≡ applied (Some (operator_of operator)) (Some (node_trees args)) }
+{
+    match operator {
+        Operator::Function(n) => Node::Call(GlobalRef::Own(n), args),
+        Operator::Builtin(p) => Node::Primitive(p, args),
+    }
+}
+
+/// The body of these expressions; none where there are none.
+fn sequence(nodes: Items<Node>) -> Option<Node>
+    ensures { option_map tree result ≡ non_empty (Some (node_trees nodes)) }
+{
+    if nodes.is_empty() {
+        return None;
+    }
+    Some(Node::Sequence(nodes))
+}
+
+impl<'a> Scope<'a> {
+    /// A parameter's value; none where it may not be used.
+    fn variable(&self, name: &[u8]) -> Result<Option<Node>, OutOfMemory>
+        ensures { IfOk result (λ n. option_map tree n ≡ variable (scope_of self.now) (Some name.now)) }
+    {
+        let Some(place) = self.params.position(name) else {
+            return Ok(None);
+        };
+        if self.in_main {
+            return Ok(None);
+        }
+        let number = number_after(self.first, place)?;
+        Ok(Some(Node::Variable(VarId(number))))
+    }
+
+    /// What a name calls that is no parameter: first the functions, then the primitives.
+    fn global(&self, name: &[u8], args: usize) -> Result<Option<Operator>, OutOfMemory>
+        ensures { IfOk result (λ o. option_map operator_of o ≡ global_operator args name.now (place_of name.now self.now.functions.now)) }
+    {
+        let Some(place) = self.functions.position(name) else {
+            return Ok(primitive(name, args).map(Operator::Builtin));
+        };
+        Ok(Some(Operator::Function(number_after(0, place)?)))
+    }
+
+    /// What a call with so many arguments calls.
+    fn operator(&self, d: &Datum, args: usize) -> Result<Option<Operator>, OutOfMemory>
+        ensures { IfOk result (λ o. option_map operator_of o ≡ operator (scope_of self.now) args (symbol_of (plain d.now))) }
+    {
+        let Some(name) = symbol(d) else {
+            return Ok(None);
+        };
+        if self.params.position(name.as_bytes()).is_some() {
+            return Ok(None);
+        }
+        self.global(name.as_bytes(), args)
+    }
+
+    /// The tree of an expression; none where it isn't one.
+    #[cycle(expressions)]
+    fn expression(&self, d: &Datum) -> Result<Option<Node>, OutOfMemory>
+        ensures { IfOk result (λ n. option_map tree n ≡ expression (scope_of self.now) (plain d.now)) }
+    {
+        match d {
+            Datum::Int(_, n) => Ok(Some(Node::Constant(Const::Int(*n)))),
+            Datum::Sym(_, name, _) => self.variable(name.as_bytes()),
+            Datum::List(_, ds) => {
+                let [first, args @ ..] = ds.as_slice() else {
+                    return Ok(None);
+                };
+                let Some(operator) = self.operator(first, args.len())? else {
+                    return Ok(None);
+                };
+                let Some(nodes) = self.expressions(args)? else {
+                    return Ok(None);
+                };
+                Ok(Some(call_of(operator, nodes)))
+            }
+            _ => Ok(None),
+        }
+    }
+
+    #[cycle(expressions)]
+    fn expressions(&self, ds: &[Datum]) -> Result<Option<Items<Node>>, OutOfMemory>
+        ensures { IfOk result (λ ns. option_map node_trees ns ≡ expressions (scope_of self.now) (plain_all ds.now)) }
+    {
+        let mut nodes = Items::new(self.alloc);
+        for d in ds {
+            let Some(node) = self.expression(d)? else {
+                return Ok(None);
+            };
+            nodes.push(node)?;
+        }
+        Ok(Some(nodes))
+    }
+
+    /// The tree of a body; none where it isn't one expression or more.
+    pub fn body(&self, ds: &[Datum]) -> Result<Option<Node>, OutOfMemory>
+        ensures { IfOk result (λ n. option_map tree n ≡ body (scope_of self.now) (plain_all ds.now)) }
+    {
+        let Some(nodes) = self.expressions(ds)? else {
+            return Ok(None);
+        };
+        Ok(sequence(nodes))
+    }
+}
