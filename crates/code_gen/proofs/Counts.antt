@@ -1,10 +1,10 @@
 -- Locals by their numbers.
-use Rattle.std.proofs.Common.{◌≡◌, ℕ, zero, suc, length, get_or, ◌+◌, ◌<◌, ◌≤◌, ◌^◌, List, [], ◌∷◌, ◌++◌, ◌⊎◌, inl, inr, map, refl, sym, ap, ◌∙◌, subst, arith}
+use Rattle.std.proofs.Common.{◌≡◌, ℕ, zero, suc, length, get_or, ◌<◌, ◌≤◌, ◌^◌, List, [], ◌∷◌, ◌++◌, inl, inr, refl, sym, ap, ◌∙◌, arith}
 use Rattle.std.proofs.lemmas.List.{map-append}
 use Rattle.c_tree.specs.declared.tree.CVar.{CVar}
 use Rattle.c_tree.specs.Names.{local_name}
 use Rattle.c_tree.proofs.NameShapes.{local_name_injective}
-use Rattle.plan_rules.specs.Translation.{Name, In, Fresh, IsLocal}
+use Rattle.plan_rules.specs.Translation.{Name, Fresh, IsLocal}
 use Rattle.code_gen.specs.declared.emitter.Held.{Held}
 use Rattle.code_gen.specs.Emission.{AreBelow, AreCounted, AreLocals, held_names}
 

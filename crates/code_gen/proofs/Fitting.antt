@@ -1,24 +1,22 @@
 -- Arguments that were evaluated are made to fit.
-use Rattle.std.proofs.Common.{◌≡◌, ℕ, suc, ◌+◌, ◌<◌, ◌≤◌, ◌^◌, List, [], ◌∷◌, ◌++◌, length, map, drop, get_or, Option, Some, None, refl, sym, ap, ◌∙◌, subst, arith, append_assoc, add-one}
+use Rattle.std.proofs.Common.{◌≡◌, ℕ, suc, ◌+◌, ◌<◌, ◌≤◌, List, [], ◌∷◌, ◌++◌, length, map, drop, get_or, Some, None, refl, sym, ap, ◌∙◌, subst, arith, append_assoc, add-one}
 use Rattle.std.proofs.Math.Seq.{drop-cons}
 use Rattle.std.proofs.lemmas.List.{map-append, append-nil, drop_all}
 use Rattle.prim_table.specs.declared.primitives.Ty.{Ty}
 use Rattle.c_tree.specs.declared.op.Op.{Op}
 use Rattle.c_tree.specs.declared.tree.CExpr.{CExpr}
 use Rattle.c_tree.specs.declared.tree.CExpr.TheVariants as expr
-use Rattle.c_tree.specs.declared.tree.CStmt.{CStmt}
-use Rattle.c_tree.specs.declared.tree.CStmt.TheVariants as stmt
 use Rattle.c_tree.specs.declared.tree.CVar.{CVar}
-use Rattle.c_tree.specs.Code.{Code, onto, assign}
+use Rattle.c_tree.specs.Code.{Code, assign}
 use Rattle.c_tree.specs.Names.{local_name}
 use Rattle.plan_rules.specs.declared.rep.Rep.{Rep}
 use Rattle.plan_rules.specs.Representation.{rep_of, c_type_of, operation, local, Step, Keep, Make, step}
-use Rattle.plan_rules.specs.Translation.{Name, Fresh, IsLocal, Made, Fits, FirstFits, AllFit}
+use Rattle.plan_rules.specs.Translation.{Name, Fresh, IsLocal, Fits, AllFit}
 use Rattle.code_gen.specs.declared.emitter.Emitter.{Emitter}
 use Rattle.code_gen.specs.declared.emitter.Held.{Held}
-use Rattle.code_gen.specs.Emission.{op_of, coercion_of, held_names, AreBelow, AddsLocal, Puts, Emits, IsFitted, AreFitted}
-use Rattle.code_gen.proofs.Counts.{below_none, below_more, below_append, below_one, below_held, fresh_at, pushed, pushed-snoc, below_pushed}
-use Rattle.code_gen.proofs.Steps.{same, then, weaker, local_emits, put_emits}
+use Rattle.code_gen.specs.Emission.{op_of, coercion_of, held_names, AreBelow, Emits, Stores, IsFitted, AreFitted}
+use Rattle.code_gen.proofs.Counts.{below_none, below_more, below_append, below_one, fresh_at, pushed, pushed-snoc, below_pushed}
+use Rattle.code_gen.proofs.Steps.{same, then, weaker}
 
 -- One argument ------------------------------------------------------------------------------
 
@@ -40,22 +38,22 @@ fit_kept s t h below none = record {
       (same s) (λ vars code rest e live b. keeps vars t (step t h.rep) live (local_name h.local) code rest none e);
 }
 
-pub fit_made : (s u v : Emitter) (t : Ty) (h : Held) (o : Op) (r : Rep) (x : ℕ) (e : CExpr) → Some o ≡ coercion_of t h.rep → r ≡ rep_of t
-    → e ≡ expr.Call (operation o (local (local_name h.local) ∷ [])) → AddsLocal s u r x → Puts u v (stmt.Assign (local_name x) e) → IsFitted s v t h x
-fit_made s u v t h o r x e some r_is e_is adds puts =
-    let next : v.next ≡ suc x = puts.next_is ∙ adds.next_is in
+pub fit_made : (s u : Emitter) (t : Ty) (h : Held) (o : Op) (r : Rep) (made : Held) (e : CExpr) → Some o ≡ coercion_of t h.rep → r ≡ rep_of t
+    → e ≡ expr.Call (operation o (local (local_name h.local) ∷ [])) → Stores s u r e made → IsFitted s u t h made.local
+fit_made s u t h o r made e some r_is e_is stored =
+    let x = local_name made.local in
+    let next : u.next ≡ suc made.local = stored.next_is in
     record {
-      below = below_one v.next x [] (omega arith) (below_none v.next);
-      emits = then s u v
-          (λ vars code rest. (code ≡ rest) × IsLocal vars (local_name x) (c_type_of r))
-          (λ vars code rest. code ≡ onto (stmt.Assign (local_name x) e ∷ []) rest)
-          (λ vars code rest. (live : List Name) → AreBelow s.next live → Fits vars t (step t h.rep) live (local_name h.local) code (local_name x) rest)
-          (local_emits s u r x adds) (put_emits u v (stmt.Assign (local_name x) e) puts)
-          (λ vars code middle rest p q live b.
-          makes vars t (step t h.rep) o live (local_name h.local) (local_name x) code rest some
-          (fresh_at s.next x live (let n : x ≡ s.next = adds.number in omega arith) adds.small b)
-          (subst (λ k. IsLocal vars (local_name x) (c_type_of k)) r_is p.1)
-          (p.0 ∙ q ∙ ap (λ f. assign (local_name x) f rest) e_is));
+      below = below_one u.next made.local [] (omega arith) (below_none u.next);
+      emits = weaker s u
+          (λ vars code rest. (code ≡ assign x e rest) × IsLocal vars x (c_type_of r))
+          (λ vars code rest. (live : List Name) → AreBelow s.next live → Fits vars t (step t h.rep) live (local_name h.local) code x rest)
+          stored.emits
+          (λ vars code rest p live b.
+          makes vars t (step t h.rep) o live (local_name h.local) x code rest some
+          (fresh_at s.next made.local live (let n : made.local ≡ s.next = stored.number in omega arith) stored.small b)
+          (subst (λ k. IsLocal vars x (c_type_of k)) r_is p.1)
+          (p.0 ∙ ap (λ f. assign x f rest) e_is));
     }
 
 -- All of them -------------------------------------------------------------------------------

@@ -1,6 +1,13 @@
 pub mod Bodies
+pub mod Calls
 pub mod Counts
+pub mod Declared
+pub mod Evaluated
 pub mod Fitting
+pub mod Functions
+pub mod Mangling
+pub mod Places
+pub mod Shapes
 pub mod Soundness
 pub mod Steps
 pub mod Units

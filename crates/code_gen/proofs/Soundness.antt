@@ -1,7 +1,7 @@
 -- The statements of a translated body are named, and their types fit.
-use Rattle.std.proofs.Common.{◌≡◌, ℕ, suc, List, [], ◌∷◌, ◌++◌, map, Bool, true, false, Option, Some, None, refl, sym, ap, ◌∙◌, subst}
-use Rattle.std.specs.Prelude.{◌&&◌, if◌then◌else◌, IsTrue}
-use Rattle.std.proofs.lemmas.Bool.{and_from}
+use Rattle.std.proofs.Common.{◌≡◌, ℕ, List, [], ◌∷◌, ◌++◌, length, map, Bool, true, false, Option, Some, None, refl, sym, ap, ◌∙◌, subst, arith}
+use Rattle.std.specs.Prelude.{IsTrue}
+use Rattle.std.proofs.lemmas.Bool.{and_from, eqb-true}
 use Rattle.scheme_data.specs.Fixnum.{IsFixnum}
 use Rattle.prim_table.specs.declared.primitives.Ty.{Ty}
 use Rattle.prim_table.specs.declared.primitives.Ty.TheVariants as ty
@@ -9,24 +9,28 @@ use Rattle.prim_table.specs.declared.primitives.Primitive.{Primitive as Builtin}
 use Rattle.prim_table.specs.declared.primitives.Primitive.TheVariants as builtin
 use Rattle.prim_table.specs.Table.{params_of, result_of}
 use Rattle.core_tree.specs.declared.tree.Const.TheVariants as const
-use Rattle.core_tree.specs.Tree.{Tree, Constant, Sequence, Primitive, Trees, none, more}
-use Rattle.core_tree.specs.WellFormed.{IsExpression, AreExpressions}
+use Rattle.core_tree.specs.declared.tree.VarId.{VarId}
+use Rattle.core_tree.specs.declared.tree.GlobalRef.{GlobalRef}
+use Rattle.core_tree.specs.Tree.{Tree, Constant, Variable, Sequence, Call, Primitive, Trees, none, more, count, FunctionTree, function_of}
 use Rattle.c_tree.specs.declared.op.Op.{Op}
 use Rattle.c_tree.specs.declared.op.Op.TheVariants.{BoxLong, UnboxLong, Primitive as Does}
 use Rattle.c_tree.specs.declared.tree.CTy.{CTy}
 use Rattle.c_tree.specs.declared.tree.CTy.TheVariants as c_ty
 use Rattle.c_tree.specs.declared.tree.CArg.{CArg}
+use Rattle.c_tree.specs.declared.tree.CAtom.TheVariants as atom
+use Rattle.c_tree.specs.declared.tree.CCall.{CCall}
 use Rattle.c_tree.specs.declared.tree.CExpr.{CExpr}
 use Rattle.c_tree.specs.declared.tree.CExpr.TheVariants as expr
 use Rattle.c_tree.specs.declared.tree.CVar.{CVar}
 use Rattle.c_tree.specs.Code.{Code, done, assign, call, return}
-use Rattle.c_tree.specs.Names.{is_local_name}
-use Rattle.c_tree.specs.Spelling.{NamedArguments, NamedExpr, NamedCode}
-use Rattle.c_meaning.specs.Checked.{same_type, is_typed, variable_named, Wants, AType, wants_of, gives_of, arguments_fit, call_type, is_the_type, has_type, expr_fits, assigned_fits, code_fits}
+use Rattle.c_tree.specs.Names.{function_name, is_local_name, is_function_name}
+use Rattle.c_tree.specs.Spelling.{NamedArguments, NamedCall, NamedExpr, NamedCode}
+use Rattle.c_meaning.specs.Checked.{Signature, signature_named, same_type, is_typed, variable_named, Wants, AType, wants_of, gives_of, arguments_fit, call_fits_signature, call_type, is_the_type, has_type, expr_fits, assigned_fits, code_fits}
 use Rattle.plan_rules.specs.declared.rep.Rep.{Rep}
 use Rattle.plan_rules.specs.declared.rep.Rep.TheVariants.{Obj, Long}
-use Rattle.plan_rules.specs.Representation.{rep_of, c_type_of, has_of, operation, local, fixnum_expr, Step, Keep, Make, step}
-use Rattle.plan_rules.specs.Translation.{Name, IsLocal, Place, into, back, deliver, Statements, Boxed, Coerced, Fits, AllFit, Applied, haves, Tr, TrUnused, TrLast, TrArguments}
+use Rattle.plan_rules.specs.Representation.{Slot, PlainAt, slot_of, rep_of, c_type_of, has_of, operation, raise_count, call_of, local, fixnum_expr, step}
+use Rattle.plan_rules.specs.Translation.{Name, IsLocal, Place, into, back, deliver, Statements, Coerced, Fits, AllFit, Applied, haves, objects, is_counted, TrVariable, TrVariableUnused, TrCounted, TrCall, Tr, TrUnused, TrLast, TrArguments}
+use Rattle.code_gen.specs.Settings.{Setting, scope_in, IsNode, AreNodes, TrIn, TrUnusedIn, TrLastIn, TrArgumentsIn}
 
 same_c_type : (t u : CTy) → same_type t u ≡ true → t ≡ u
 same_c_type c_ty.Obj c_ty.Obj e = refl
@@ -46,9 +50,32 @@ same_c_type c_ty.Int c_ty.Long e = absurd (cc)
 same_c_type c_ty.Int c_ty.Char e = absurd (cc)
 same_c_type c_ty.Int c_ty.Int e = refl
 
-module _ (vars : List CVar) (locals_named : (x : Name) (t : CTy) → IsLocal vars x t → IsTrue (is_local_name x)) where
+-- Signatures --------------------------------------------------------------------------------
+
+-- a function takes and gives words
+abbrev pub signature : Name → FunctionTree → Signature
+signature m f = record { name = function_name m f.name; result = c_ty.Obj; params = map (λ _. c_ty.Obj) f.params }
+
+-- what the statements of a function rest on: their variables are locals, and the functions that they may call are declared
+pub record Grounds (w : Setting) (sigs : List Signature) (vars : List CVar) : Type 0 where
+  pub locals_named : (x : Name) (t : CTy) → IsLocal vars x t → IsTrue (is_local_name x)
+  pub scoped : (x : VarId) (r : Rep) (y : Name) → slot_of x (scope_in w) ≡ Some (PlainAt r y) → IsLocal vars y (c_type_of r)
+  pub signed : (g : GlobalRef) (f : FunctionTree) → function_of w.functions g ≡ Some f → signature_named sigs (function_name w.module_name f.name) ≡ Some (signature w.module_name f)
+  pub called_named : (g : GlobalRef) (f : FunctionTree) → function_of w.functions g ≡ Some f → IsTrue (is_function_name (function_name w.module_name f.name))
+
+abbrev wanted : Ty → Wants
+wanted t = AType (c_type_of (rep_of t))
+
+-- as many words are wanted as there are parameters
+objects_want : (ns : Trees) (params : List VarId) → count ns ≡ length params → map wanted (objects ns) ≡ map AType (map (λ _. c_ty.Obj) params)
+objects_want none [] e = refl
+objects_want none (x ∷ xs) e = absurd (omega arith)
+objects_want (more n ns) [] e = absurd (omega arith)
+objects_want (more n ns) (x ∷ xs) e = ap (λ ws. AType c_ty.Obj ∷ ws) (objects_want ns xs (omega arith))
+
+module _ (w : Setting) (sigs : List Signature) (vars : List CVar) (grounds : Grounds w sigs vars) where
   pub record Fine (code : Code) : Type 0 where
-    pub fits : code_fits [] vars c_ty.Obj code ≡ true
+    pub fits : code_fits sigs vars c_ty.Obj code ≡ true
     pub named : NamedCode code
 
   pub fine_done : Fine done
@@ -57,19 +84,40 @@ module _ (vars : List CVar) (locals_named : (x : Name) (t : CTy) → IsLocal var
   -- Expressions -----------------------------------------------------------------------------
 
   record FineExpr (e : CExpr) (t : CTy) : Type 0 where
-    fits : expr_fits [] vars e t ≡ true
+    fits : expr_fits sigs vars e t ≡ true
     named : NamedExpr e
 
   fine_number : (n : _) (h : Rep) → IsFixnum n → FineExpr (fixnum_expr h n) (c_type_of h)
   fine_number n Obj h = record { fits = rw h refl; named = (tt, (h, tt)) }
   fine_number n Long h = record { fits = h; named = h }
 
-  record FineArgs (op : Op) (args : List CArg) : Type 0 where
-    fits : arguments_fit vars (wants_of op) args ≡ true
+  fine_local : (y : Name) (t : CTy) → IsLocal vars y t → FineExpr (expr.Atom (atom.Name y)) t
+  fine_local y t h = record { fits = h; named = grounds.locals_named y t h }
+
+  record FineArgs (ws : List Wants) (args : List CArg) : Type 0 where
+    fits : arguments_fit vars ws args ≡ true
     named : NamedArguments args
 
-  fine_call : (op : Op) (args : List CArg) → FineArgs op args → FineExpr (expr.Call (operation op args)) (gives_of op)
-  fine_call op args h = record { fits = rw h.fits (own (gives_of op)); named = (tt, h.named) }
+  record FineCall (c : CCall) (t : CTy) : Type 0 where
+    typed : call_type sigs vars c.callee c.args ≡ Some t
+    named : NamedCall c
+
+  fine_operation : (op : Op) (args : List CArg) → FineArgs (wants_of op) args → FineCall (operation op args) (gives_of op)
+  fine_operation op args h = record { typed = rw h.fits refl; named = (tt, h.named) }
+
+  -- the signature is found, and the arguments fit it
+  fine_own : (g : GlobalRef) (f : FunctionTree) (args : List CArg) → function_of w.functions g ≡ Some f → FineArgs (map AType (map (λ _. c_ty.Obj) f.params)) args
+      → FineCall (call_of (function_name w.module_name f.name) args) c_ty.Obj
+  fine_own g f args found h = record {
+    typed = ap (λ s. call_fits_signature vars s args) (grounds.signed g f found) ∙ rw h.fits refl;
+    named = (grounds.called_named g f found, h.named);
+  }
+
+  fine_raise : (want : ℕ) → FineCall (raise_count want) c_ty.Int
+  fine_raise want = record { typed = refl; named = (tt, (refl, (tt, tt))) }
+
+  fine_call : (c : CCall) (t : CTy) → FineCall c t → FineExpr (expr.Call c) t
+  fine_call c t h = record { fits = ap (is_the_type t) h.typed ∙ own t; named = h.named }
     where
       own : (t : CTy) → same_type t t ≡ true
       own c_ty.Obj = refl
@@ -78,33 +126,38 @@ module _ (vars : List CVar) (locals_named : (x : Name) (t : CTy) → IsLocal var
       own c_ty.Int = refl
 
   fine_box : (x : Name) → IsLocal vars x c_ty.Long → FineExpr (expr.Call (operation BoxLong (local x ∷ []))) c_ty.Obj
-  fine_box x h = fine_call BoxLong (local x ∷ []) (record { fits = and_from (is_typed c_ty.Long (variable_named vars x)) true h refl; named = (locals_named x c_ty.Long h, tt) })
+  fine_box x h =
+      fine_call (operation BoxLong (local x ∷ [])) c_ty.Obj (fine_operation BoxLong (local x ∷ [])
+      (record { fits = and_from (is_typed c_ty.Long (variable_named vars x)) true h refl; named = (grounds.locals_named x c_ty.Long h, tt) }))
 
   fine_unbox : (x : Name) → IsLocal vars x c_ty.Obj → FineExpr (expr.Call (operation UnboxLong (local x ∷ []))) c_ty.Long
-  fine_unbox x h = fine_call UnboxLong (local x ∷ []) (record { fits = and_from (is_typed c_ty.Obj (variable_named vars x)) true h refl; named = (locals_named x c_ty.Obj h, tt) })
+  fine_unbox x h =
+      fine_call (operation UnboxLong (local x ∷ [])) c_ty.Long (fine_operation UnboxLong (local x ∷ [])
+      (record { fits = and_from (is_typed c_ty.Obj (variable_named vars x)) true h refl; named = (grounds.locals_named x c_ty.Obj h, tt) }))
 
   -- Statements ------------------------------------------------------------------------------
 
-  assigned : (o : Option CVar) (t : CTy) (e : CExpr) → is_typed t o ≡ true → expr_fits [] vars e t ≡ true → assigned_fits [] vars e o ≡ true
+  assigned : (o : Option CVar) (t : CTy) (e : CExpr) → is_typed t o ≡ true → expr_fits sigs vars e t ≡ true → assigned_fits sigs vars e o ≡ true
   assigned None t e h f = absurd (cc h)
-  assigned (Some v) t e h f = subst (λ u. expr_fits [] vars e u ≡ true) (same_c_type t v.ty h) f
+  assigned (Some v) t e h f = subst (λ u. expr_fits sigs vars e u ≡ true) (same_c_type t v.ty h) f
 
   fine_assign : (x : Name) (t : CTy) (e : CExpr) (rest : Code) → IsLocal vars x t → FineExpr e t → Fine rest → Fine (assign x e rest)
   fine_assign x t e rest l h f = record {
-    fits = and_from (assigned_fits [] vars e (variable_named vars x)) (code_fits [] vars c_ty.Obj rest) (assigned (variable_named vars x) t e l h.fits) f.fits;
-    named = (locals_named x t l, h.named, f.named);
+    fits = and_from (assigned_fits sigs vars e (variable_named vars x)) (code_fits sigs vars c_ty.Obj rest) (assigned (variable_named vars x) t e l h.fits) f.fits;
+    named = (grounds.locals_named x t l, h.named, f.named);
   }
 
   fine_return : (e : CExpr) (rest : Code) → FineExpr e c_ty.Obj → Fine rest → Fine (return e rest)
   fine_return e rest h f = record {
-    fits = and_from (expr_fits [] vars e c_ty.Obj) (code_fits [] vars c_ty.Obj rest) h.fits f.fits;
+    fits = and_from (expr_fits sigs vars e c_ty.Obj) (code_fits sigs vars c_ty.Obj rest) h.fits f.fits;
     named = (h.named, f.named);
   }
 
-  fine_statement : (op : Op) (args : List CArg) (rest : Code) → FineArgs op args → Fine rest → Fine (call (operation op args) rest)
-  fine_statement op args rest h f =
-      let typed : has_type (call_type [] vars (operation op args).callee args) ≡ true = rw h.fits refl in
-      record { fits = and_from (has_type (call_type [] vars (operation op args).callee args)) (code_fits [] vars c_ty.Obj rest) typed f.fits; named = ((tt, h.named), f.named) }
+  fine_statement : (c : CCall) (t : CTy) (rest : Code) → FineCall c t → Fine rest → Fine (call c rest)
+  fine_statement c t rest h f = record {
+    fits = and_from (has_type (call_type sigs vars c.callee c.args)) (code_fits sigs vars c_ty.Obj rest) (ap has_type h.typed) f.fits;
+    named = (h.named, f.named);
+  }
 
   -- the place takes a value in this representation
   abbrev PlaceFits : Place → Rep → Type 0
@@ -164,16 +217,13 @@ module _ (vars : List CVar) (locals_named : (x : Name) (t : CTy) → IsLocal var
   fine_all (t ∷ ts) [] (y ∷ ys) live code made rest f l g = absurd f
   fine_all (t ∷ ts) (h ∷ hs) [] live code made rest f l g = absurd f
 
-  typed_arguments : (ts : List Ty) (ns : Trees) (live ys : List Name) (code rest : Code) → TrArguments vars ts ns live ys code rest → AreTyped ys (haves vars ts ns)
+  typed_arguments : (ts : List Ty) (ns : Trees) (live ys : List Name) (code rest : Code) → TrArgumentsIn w vars ts ns live ys code rest → AreTyped ys (haves (scope_in w) ts ns)
   unfolding TrArguments
   typed_arguments [] none live ys code rest a = subst (λ zs. AreTyped zs []) (sym a.0) tt
   typed_arguments (t ∷ ts) (more n ns) live ys code rest a =
-      subst (λ zs. AreTyped zs (has_of n (rep_of t) ∷ haves vars ts ns)) (sym a.are) (a.is_local, typed_arguments ts ns (a.first ∷ live) a.rest a.middle rest a.all)
+      subst (λ zs. AreTyped zs (has_of (scope_in w) n (rep_of t) ∷ haves (scope_in w) ts ns)) (sym a.are) (a.is_local, typed_arguments ts ns (a.first ∷ live) a.rest a.middle rest a.all)
   typed_arguments [] (more n ns) live ys code rest a = absurd a
   typed_arguments (t ∷ ts) none live ys code rest a = absurd a
-
-  abbrev wanted : Ty → Wants
-  wanted t = AType (c_type_of (rep_of t))
 
   made_fit : (ts : List Ty) (made : List Name) → AreMade made ts → arguments_fit vars (map wanted ts) (map local made) ≡ true
   made_fit [] [] h = refl
@@ -183,7 +233,7 @@ module _ (vars : List CVar) (locals_named : (x : Name) (t : CTy) → IsLocal var
 
   made_named : (ts : List Ty) (made : List Name) → AreMade made ts → NamedArguments (map local made)
   made_named [] [] h = tt
-  made_named (t ∷ ts) (y ∷ ys) h = (locals_named y (c_type_of (rep_of t)) h.0, made_named ts ys h.1)
+  made_named (t ∷ ts) (y ∷ ys) h = (grounds.locals_named y (c_type_of (rep_of t)) h.0, made_named ts ys h.1)
   made_named [] (y ∷ ys) h = absurd h
   made_named (t ∷ ts) [] h = absurd h
 
@@ -197,49 +247,97 @@ module _ (vars : List CVar) (locals_named : (x : Name) (t : CTy) → IsLocal var
   gives-result builtin.Display = refl
   gives-result builtin.Newline = refl
 
-  fine_made : (p : Builtin) (made : List Name) → AreMade made (params_of p) → FineArgs (Does p) (map local made)
-  fine_made p made h = record { fits = ap (λ ws. arguments_fit vars ws (map local made)) (wants-params p) ∙ made_fit (params_of p) made h; named = made_named (params_of p) made h }
+  fine_made : (ts : List Ty) (made : List Name) → AreMade made ts → FineArgs (map wanted ts) (map local made)
+  fine_made ts made h = record { fits = made_fit ts made h; named = made_named ts made h }
 
-  fine_applied : (p : Builtin) (ns : Trees) (live : List Name) (finish : List CArg → Code) (code : Code)
-      → ((ys : List Name) (code middle : Code) → TrArguments vars (params_of p) ns live ys code middle → Fine middle → Fine code)
-      → ((args : List CArg) → FineArgs (Does p) args → Fine (finish args))
-      → Applied vars (λ ys code middle. TrArguments vars (params_of p) ns live ys code middle) (params_of p) (haves vars (params_of p) ns) live finish code → Fine code
-  fine_applied p ns live finish code evaluated finished a =
-      let ts = params_of p in
-      let hs = haves vars ts ns in
+  -- arguments are evaluated and made to fit, and the end is right for such arguments
+  fine_applied : (ts : List Ty) (ns : Trees) (live : List Name) (finish : List CArg → Code) (code : Code)
+      → ((ys : List Name) (code middle : Code) → TrArgumentsIn w vars ts ns live ys code middle → Fine middle → Fine code)
+      → ((args : List CArg) → FineArgs (map wanted ts) args → Fine (finish args))
+      → Applied vars (λ ys code middle. TrArgumentsIn w vars ts ns live ys code middle) ts (haves (scope_in w) ts ns) live finish code → Fine code
+  fine_applied ts ns live finish code evaluated finished a =
+      let hs = haves (scope_in w) ts ns in
       let l = typed_arguments ts ns live a.temporaries code a.middle a.values in
       let m = made_all ts hs a.temporaries (a.temporaries ++ live) a.middle a.made a.last a.fit l in
-      let end = subst Fine (sym a.is) (finished (map local a.made) (fine_made p a.made m)) in
+      let end = subst Fine (sym a.is) (finished (map local a.made) (fine_made ts a.made m)) in
       evaluated a.temporaries code a.middle a.values (fine_all ts hs a.temporaries (a.temporaries ++ live) a.middle a.made a.last a.fit l end)
 
+  -- Calls -----------------------------------------------------------------------------------
+
+  fine_primitive : (p : Builtin) (args : List CArg) → FineArgs (map wanted (params_of p)) args → FineCall (operation (Does p) args) (c_type_of (rep_of (result_of p)))
+  fine_primitive p args h =
+      let fits : FineArgs (wants_of (Does p)) args = subst (λ ws. FineArgs ws args) (sym (wants-params p)) h in
+      subst (FineCall (operation (Does p) args)) (gives-result p) (fine_operation (Does p) args fits)
+
+  fine_counted : (right : Bool) (g : GlobalRef) (f : FunctionTree) (ns : Trees) (live : List Name) (finish : CCall → Code) (code rest : Code)
+      → is_counted f ns ≡ right → function_of w.functions g ≡ Some f
+      → ((ys : List Name) (code middle : Code) → TrArgumentsIn w vars (objects ns) ns live ys code middle → Fine middle → Fine code)
+      → ((c : CCall) → FineCall c c_ty.Obj → Fine (finish c)) → Fine rest
+      → TrCounted w.module_name w.functions (scope_in w) vars right f (λ ys code middle. TrArgumentsIn w vars (objects ns) ns live ys code middle) ns live finish code rest → Fine code
+  fine_counted true g f ns live finish code rest counted found evaluated finished end t =
+      fine_applied (objects ns) ns live (λ args. finish (call_of (function_name w.module_name f.name) args)) code evaluated
+      (λ args h. finished (call_of (function_name w.module_name f.name) args)
+      (fine_own g f args found (subst (λ ws. FineArgs ws args) (objects_want ns f.params (eqb-true (count ns) (length f.params) counted)) h)))
+      t
+  fine_counted false g f ns live finish code rest counted found evaluated finished end t =
+      evaluated t.temporaries code t.middle t.values (subst Fine (sym t.is) (fine_statement (raise_count (length f.params)) c_ty.Int rest (fine_raise (length f.params)) end))
+
+  fine_called : (o : Option FunctionTree) (g : GlobalRef) (ns : Trees) (live : List Name) (finish : CCall → Code) (code rest : Code) → function_of w.functions g ≡ o
+      → ((ys : List Name) (code middle : Code) → TrArgumentsIn w vars (objects ns) ns live ys code middle → Fine middle → Fine code)
+      → ((c : CCall) → FineCall c c_ty.Obj → Fine (finish c)) → Fine rest
+      → TrCall w.module_name w.functions (scope_in w) vars o (λ ys code middle. TrArgumentsIn w vars (objects ns) ns live ys code middle) ns live finish code rest → Fine code
+  fine_called None g ns live finish code rest found evaluated finished end t = absurd t
+  fine_called (Some f) g ns live finish code rest found evaluated finished end t = fine_counted (is_counted f ns) g f ns live finish code rest refl found evaluated finished end t
+
   -- Nodes -----------------------------------------------------------------------------------
+
+  fine_variable : (o : Option Slot) (x : VarId) (h : Rep) (place : Place) (code rest : Code) → slot_of x (scope_in w) ≡ o
+      → TrVariable w.module_name w.functions (scope_in w) vars o h place code rest → PlaceFits place h → Fine rest → Fine code
+  fine_variable None x h place code rest found t l g = absurd t
+  fine_variable (Some (PlainAt r y)) x h place code rest found t l g =
+      let there : IsLocal vars y (c_type_of h) = subst (λ k. IsLocal vars y (c_type_of k)) (sym t.0) (grounds.scoped x r y found) in
+      subst Fine (sym t.1) (fine_deliver place h (expr.Atom (atom.Name y)) rest l (fine_local y (c_type_of h) there) g)
+
+  fine_variable_unused : (o : Option Slot) (code rest : Code) → TrVariableUnused w.module_name w.functions (scope_in w) vars o code rest → Fine rest → Fine code
+  fine_variable_unused None code rest t g = absurd t
+  fine_variable_unused (Some slot) code rest t g = subst Fine (sym t) g
 
   mutual
     unfolding Tr TrArguments
 
-    fine_tr : (n : Tree) → IsExpression n → (h : Rep) (live : List Name) (place : Place) (code rest : Code) → Tr vars n h live place code rest → PlaceFits place h → Fine rest → Fine code
+    fine_tr : (n : Tree) → IsNode w n → (h : Rep) (live : List Name) (place : Place) (code rest : Code) → TrIn w vars n h live place code rest → PlaceFits place h → Fine rest → Fine code
     fine_tr (Constant (const.Int n)) x h live place code rest t l g = subst Fine (sym t) (fine_deliver place h (fixnum_expr h n) rest l (fine_number n h x) g)
+    fine_tr (Variable v) x h live place code rest t l g = fine_variable (slot_of v (scope_in w)) v h place code rest refl t l g
     fine_tr (Sequence ts) x h live place code rest t l g = absurd x
+    fine_tr (Call f ns) x h live place code rest t l g =
+        fine_called (function_of w.functions f) f ns live (λ c. deliver place (expr.Call c) rest) code rest refl
+        (λ ys code middle a f. fine_arguments ns x.1 (objects ns) live ys code middle a f)
+        (λ c f. fine_deliver place Obj (expr.Call c) rest (subst (PlaceFits place) t.0 l) (fine_call c c_ty.Obj f) g) g t.1
     fine_tr (Primitive p ns) x h live place code rest t l g =
-        fine_applied p ns live (λ args. deliver place (expr.Call (operation (Does p) args)) rest) code
+        fine_applied (params_of p) ns live (λ args. deliver place (expr.Call (operation (Does p) args)) rest) code
         (λ ys code middle a f. fine_arguments ns x.1 (params_of p) live ys code middle a f)
         (λ args f. fine_deliver place h (expr.Call (operation (Does p) args)) rest l
-        (subst (λ u. FineExpr (expr.Call (operation (Does p) args)) u) (gives-result p ∙ ap c_type_of (sym t.0)) (fine_call (Does p) args f)) g)
+        (subst (λ k. FineExpr (expr.Call (operation (Does p) args)) (c_type_of k)) (sym t.0) (fine_call (operation (Does p) args) (c_type_of (rep_of (result_of p))) (fine_primitive p args f))) g)
         t.1
 
-    fine_arguments : (ns : Trees) → AreExpressions ns → (ts : List Ty) (live ys : List Name) (code rest : Code) → TrArguments vars ts ns live ys code rest → Fine rest → Fine code
+    fine_arguments : (ns : Trees) → AreNodes w ns → (ts : List Ty) (live ys : List Name) (code rest : Code) → TrArgumentsIn w vars ts ns live ys code rest → Fine rest → Fine code
     fine_arguments none x [] live ys code rest a g = subst Fine (sym a.1) g
     fine_arguments none x (t ∷ ts) live ys code rest a g = absurd a
     fine_arguments (more n ns) x [] live ys code rest a g = absurd a
     fine_arguments (more n ns) x (t ∷ ts) live ys code rest a g =
-        fine_tr n x.0 (has_of n (rep_of t)) live (into a.first) code a.middle a.given a.is_local (fine_arguments ns x.1 ts (a.first ∷ live) a.rest a.middle rest a.all g)
+        fine_tr n x.0 (has_of (scope_in w) n (rep_of t)) live (into a.first) code a.middle a.given a.is_local (fine_arguments ns x.1 ts (a.first ∷ live) a.rest a.middle rest a.all g)
 
-  fine_unused : (n : Tree) → IsExpression n → (live : List Name) (code rest : Code) → TrUnused vars n live code rest → Fine rest → Fine code
+  fine_unused : (n : Tree) → IsNode w n → (live : List Name) (code rest : Code) → TrUnusedIn w vars n live code rest → Fine rest → Fine code
   unfolding TrUnused
   fine_unused (Constant c) x live code rest t g = subst Fine (sym t) g
+  fine_unused (Variable v) x live code rest t g = fine_variable_unused (slot_of v (scope_in w)) code rest t g
   fine_unused (Sequence ts) x live code rest t g = absurd x
+  fine_unused (Call f ns) x live code rest t g =
+      fine_called (function_of w.functions f) f ns live (λ c. call c rest) code rest refl
+      (λ ys code middle a f. fine_arguments ns x.1 (objects ns) live ys code middle a f) (λ c f. fine_statement c c_ty.Obj rest f g) g t
   fine_unused (Primitive p ns) x live code rest t g =
-      fine_applied p ns live (λ args. call (operation (Does p) args) rest) code (λ ys code middle a f. fine_arguments ns x.1 (params_of p) live ys code middle a f) (λ args f. fine_statement (Does p) args rest f g) t
+      fine_applied (params_of p) ns live (λ args. call (operation (Does p) args) rest) code (λ ys code middle a f. fine_arguments ns x.1 (params_of p) live ys code middle a f)
+      (λ args f. fine_statement (operation (Does p) args) (c_type_of (rep_of (result_of p))) rest (fine_primitive p args f) g) t
 
   fine_coerced : (h : Rep) (given : Statements) (live : List Name) (code rest : Code)
       → ((place : Place) (code rest : Code) → given place code rest → PlaceFits place h → Fine rest → Fine code) → Coerced vars h Obj given live back code rest → Fine rest → Fine code
@@ -247,9 +345,10 @@ module _ (vars : List CVar) (locals_named : (x : Name) (t : CTy) → IsLocal var
   fine_coerced Long given live code rest each c g =
       each (into c.temporary) code c.middle c.value c.is_local (subst Fine (sym c.box) (fine_return (expr.Call (operation BoxLong (local c.temporary ∷ []))) rest (fine_box c.temporary c.is_local) g))
 
-  pub fine_last : (ts : Trees) → AreExpressions ts → (live : List Name) (code rest : Code) → TrLast vars ts Obj live back code rest → Fine rest → Fine code
+  pub fine_last : (ts : Trees) → AreNodes w ts → (live : List Name) (code rest : Code) → TrLastIn w vars ts Obj live back code rest → Fine rest → Fine code
   unfolding TrLast
   fine_last none x live code rest t g = absurd t
   fine_last (more n none) x live code rest t g =
-      fine_coerced (has_of n Obj) (λ place code rest. Tr vars n (has_of n Obj) live place code rest) live code rest (λ place code rest t l f. fine_tr n x.0 (has_of n Obj) live place code rest t l f) t g
+      fine_coerced (has_of (scope_in w) n Obj) (λ place code rest. TrIn w vars n (has_of (scope_in w) n Obj) live place code rest) live code rest
+      (λ place code rest t l f. fine_tr n x.0 (has_of (scope_in w) n Obj) live place code rest t l f) t g
   fine_last (more n (more u us)) x live code rest t g = fine_unused n x.0 live code t.middle t.one (fine_last (more u us) x.1 live t.middle rest t.all g)

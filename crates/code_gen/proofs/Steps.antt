@@ -1,5 +1,6 @@
 -- Steps of the emitter, one after another.
-use Rattle.std.proofs.Common.{◌≡◌, ℕ, suc, ◌+◌, ◌<◌, ◌≤◌, ◌^◌, List, [], ◌∷◌, ◌++◌, refl, sym, ap, ◌∙◌, subst, arith}
+use Rattle.std.proofs.Common.{◌≡◌, ℕ, suc, ◌<◌, ◌≤◌, ◌^◌, List, [], ◌∷◌, ◌++◌, refl, sym, ap, ◌∙◌, subst, arith}
+use Rattle.c_tree.specs.declared.tree.CExpr.{CExpr}
 use Rattle.c_tree.specs.declared.tree.CStmt.{CStmt}
 use Rattle.c_tree.specs.declared.tree.CStmt.TheVariants as stmt
 use Rattle.c_tree.specs.declared.tree.CVar.{CVar}
@@ -9,7 +10,7 @@ use Rattle.plan_rules.specs.declared.rep.Rep.{Rep}
 use Rattle.plan_rules.specs.Representation.{c_type_of}
 use Rattle.plan_rules.specs.Translation.{IsLocal}
 use Rattle.code_gen.specs.declared.emitter.Emitter.{Emitter}
-use Rattle.code_gen.specs.Emission.{AreCounted, AreLocals, AddsLocal, Puts, Written, Emits}
+use Rattle.code_gen.specs.Emission.{AreCounted, AreLocals, AddsLocal, Puts, Emits, Stores, LeavesUnset}
 use Rattle.code_gen.proofs.Counts.{counted_one, locals_before, local_last}
 
 abbrev pub Means : Type 1
@@ -86,3 +87,22 @@ put_emits s t one p = record {
     meant = refl;
   };
 }
+
+-- A local with a value ----------------------------------------------------------------------
+
+pub stores : (s t u : Emitter) (h : Rep) (x : ℕ) (e : CExpr) → AddsLocal s t h x → Puts t u (stmt.Assign (local_name x) e) → Stores s u h e (record { local = x; rep = h })
+stores s t u h x e adds puts = record {
+  rep = refl;
+  number = adds.number;
+  small = adds.small;
+  next_is = puts.next_is ∙ adds.next_is;
+  emits = then s t u
+      (λ vars code rest. (code ≡ rest) × IsLocal vars (local_name x) (c_type_of h))
+      (λ vars code rest. code ≡ onto (stmt.Assign (local_name x) e ∷ []) rest)
+      (λ vars code rest. (code ≡ assign (local_name x) e rest) × IsLocal vars (local_name x) (c_type_of h))
+      (local_emits s t h x adds) (put_emits t u (stmt.Assign (local_name x) e) puts)
+      (λ vars code middle rest p q. (p.0 ∙ q, p.1));
+}
+
+pub leaves_unset : (s t : Emitter) (h : Rep) (x : ℕ) → AddsLocal s t h x → LeavesUnset s t h (record { local = x; rep = h })
+leaves_unset s t h x adds = record { rep = refl; number = adds.number; small = adds.small; next_is = adds.next_is; emits = local_emits s t h x adds }

@@ -1,143 +1,195 @@
--- A function that was emitted, and the unit that it makes.
-use Rattle.std.proofs.Common.{◌≡◌, ℕ, suc, ◌+◌, ◌<◌, ◌≤◌, ◌^◌, Bool, true, false, List, [], ◌∷◌, ◌++◌, length, map, get_or, Some, refl, sym, ap, ◌∙◌, subst, arith}
-use Rattle.std.specs.Prelude.{◌&&◌, if◌then◌else◌, IsTrue}
+-- A unit: declarations of all functions, and then their definitions.
+use Rattle.std.proofs.Common.{◌≡◌, ℕ, zero, suc, ◌+◌, ◌<◌, true, List, [], ◌∷◌, ◌++◌, length, map, take, get_or, inl, inr, refl, sym, ap, ◌∙◌, subst, arith, append_assoc}
+use Rattle.std.specs.Prelude.{◌&&◌, IsTrue}
 use Rattle.std.proofs.lemmas.Bool.{and_from}
-use Rattle.scheme_data.specs.Symbols.{IsName}
-use Rattle.core_tree.specs.declared.tree.Node.{Node}
-use Rattle.core_tree.specs.declared.tree.VarId.{VarId}
+use Rattle.std.proofs.lemmas.List.{append-nil, map-append, take_more}
+use Rattle.core_tree.specs.Tree.{FunctionTree, ModuleTree, function_tree}
 use Rattle.core_tree.specs.declared.tree.Top.{Top}
-use Rattle.core_tree.specs.Tree.{Tree, Constant, Sequence, Primitive, Trees, none, more, FunctionTree, ModuleTree, function_tree}
-use Rattle.core_tree.specs.WellFormed.{IsBody, IsWellFormed}
-use Rattle.c_tree.specs.declared.tree.CTy.{CTy}
-use Rattle.c_tree.specs.declared.tree.CTy.TheVariants as c_ty
-use Rattle.c_tree.specs.declared.tree.CVar.{CVar}
-use Rattle.c_tree.specs.Code.{Code, done, loop, onto, Fun, defined}
-use Rattle.c_tree.specs.Names.{local_name, label_name, function_name, is_function_name, is_local_name, is_label_name, is_main}
-use Rattle.c_tree.specs.Spelling.{NamedVars, NamedBody, NamedCode, NamedItems}
-use Rattle.c_tree.proofs.NameShapes.{function_name_not_main, is_label_name-label_name}
-use Rattle.c_meaning.specs.Checked.{variables_of, are_distinct, code_fits, is_looped, is_main_function, function_fits, is_sound}
-use Rattle.plan_rules.specs.declared.rep.Rep.TheVariants.{Obj}
-use Rattle.plan_rules.specs.Translation.{Name, IsLocal, back, Tr, TrFunction, TrFunctions, Translated}
-use Rattle.code_gen.specs.declared.emitter.Emitter.{Emitter}
-use Rattle.code_gen.specs.Emission.{AreBelow, AreCounted, AreLocals, IsFresh, IsBodyOf, first_word, IsOnlyWord, IsFunctionOf}
-use Rattle.code_gen.proofs.Counts.{below_none, below_one}
-use Rattle.code_gen.proofs.Variables.{counted_distinct, counted_locals, counted_named, local_named}
-use Rattle.code_gen.proofs.Soundness.{Fine, fine_done, fine_last}
+use Rattle.core_tree.specs.WellFormed.{IsFunction, AreFunctions, IsWellFormed}
+use Rattle.c_tree.specs.declared.tree.CFun.{CFun}
+use Rattle.c_tree.specs.declared.tree.CItem.{CItem}
+use Rattle.c_tree.specs.declared.tree.CItem.TheVariants.{Defined}
+use Rattle.c_tree.specs.Code.{Fun, Item, defined, fun_of, item_of, items_of}
+use Rattle.c_tree.specs.Names.{function_name}
+use Rattle.c_tree.specs.Spelling.{NamedItems}
+use Rattle.c_meaning.specs.Checked.{Signature, signature_of, function_fits, callable, agrees, are_distinct, items_fit, defined_names, is_sound}
+use Rattle.plan_rules.specs.Translation.{Name, TrFunctions, AreOwn, Translated}
+use Rattle.code_gen.specs.Emission.{IsFunctionOf, declaration, declarations_of, AreFunctionsOf, AddsFunctions}
+use Rattle.code_gen.proofs.Soundness.{signature}
+use Rattle.code_gen.proofs.Declared.{Has, Within, names_of, names_distinct, in_names, is_function, named_function, agree, all_callable}
+use Rattle.code_gen.proofs.Functions.{Fits, function_fits_module}
 
--- The function ------------------------------------------------------------------------------
+-- Functions are added -----------------------------------------------------------------------
 
-none_counted : (s : Emitter) (first : ℕ) → s.locals ≡ [] → s.next ≡ first → AreCounted s.locals first s.next
-unfolding AreCounted
-none_counted s first e f =
-    let A : List CVar → ℕ → Type 0 = λ vs n. AreCounted vs first n in
-    subst (λ vs. A vs s.next) (sym e) (subst (A []) (sym f) refl)
+one_more : (m : ModuleTree) (fs : List FunctionTree) (gs : List Fun) (f : FunctionTree) (g : Fun) → AreFunctionsOf m fs gs → IsFunctionOf m f g → AreFunctionsOf m (fs ++ f ∷ []) (gs ++ g ∷ [])
+one_more m [] [] f g all one = (one, tt)
+one_more m (h ∷ hs) (k ∷ ks) f g all one = (all.0, one_more m hs ks f g all.1 one)
+one_more m [] (k ∷ ks) f g all one = absurd all
+one_more m (h ∷ hs) [] f g all one = absurd all
 
-pub function_of : (s e : Emitter) (m n : List ℕ) (body : Tree) (f : Fun) → IsFresh s 1 → IsBodyOf s e body → f.name ≡ function_name m n → IsTrue (is_function_name f.name)
-    → f.result ≡ c_ty.Obj → IsOnlyWord f.params → f.locals ≡ e.locals → f.code ≡ loop (label_name 0) (onto e.stmts done) done → IsFunctionOf m n body f
-function_of s e m n body f fresh all name_is named result params locals code_is = record {
-  name_is = name_is;
-  named = named;
-  result = result;
-  params = params;
-  last = e.next;
-  small = let one : s.next ≡ 1 = fresh.next_is in all.emits.small (omega arith);
-  counted = subst (λ vs. AreCounted vs 1 e.next) (sym locals) (all.emits.counted 1 (none_counted s 1 fresh.locals fresh.next_is));
-  code = onto e.stmts done;
-  looped = code_is;
-  translated = λ l.
-      let vars = variables_of f in
-      let w = all.emits.code vars (subst (AreLocals vars) locals l) done in
-      let one : s.next ≡ 1 = fresh.next_is in
-      let below : AreBelow s.next (local_name 0 ∷ []) = below_one s.next 0 [] (omega arith) (below_none s.next) in
-      subst (λ c. Tr vars body Obj (local_name 0 ∷ []) back c done) (sym (w.is ∙ ap (λ ss. onto ss w.code) fresh.stmts)) (w.meant (local_name 0 ∷ []) below);
-}
+pub adds_none : (m : ModuleTree) (before : List Item) → AddsFunctions m [] before before
+adds_none m before = record { added = []; is = sym (append-nil before); are = tt }
 
--- Its variables -----------------------------------------------------------------------------
-
-record HasVariables (f : Fun) : Type 0 where
-  distinct : are_distinct (map (λ v. v.name) (variables_of f)) ≡ true
-  all_named : NamedVars (variables_of f)
-  params_named : NamedVars f.params
-  locals_named : NamedVars f.locals
-  locals : AreLocals (variables_of f) f.locals
-
-with_word : (vs : List CVar) (last : ℕ) → AreCounted vs 1 last → AreCounted (first_word ∷ vs) 0 last
-unfolding AreCounted
-with_word vs last h = (refl, h)
-
-others_local : (v : CVar) (vs : List CVar) → AreLocals (v ∷ vs) (v ∷ vs) → AreLocals (v ∷ vs) vs
-unfolding AreLocals
-others_local v vs h = h.1
-
-has_variables : (f : Fun) (last : ℕ) → IsOnlyWord f.params → last ≤ 2 ^ 32 → AreCounted f.locals 1 last → HasVariables f
-has_variables f last params small counted =
-    let all = with_word f.locals last counted in
-    let are : first_word ∷ f.locals ≡ variables_of f = ap (λ ps. ps ++ f.locals) (sym params) in
-    let named = counted_named (first_word ∷ f.locals) 0 last all small in
+pub adds_one : (m : ModuleTree) (tops : List Top) (i : ℕ) (top : Top) (before middle after : List Item) (g : Fun) → i < length tops → top ≡ get_or tops i top
+    → AddsFunctions m (map function_tree (take i tops)) before middle → IsFunctionOf m (function_tree top) g → after ≡ middle ++ defined g ∷ []
+    → AddsFunctions m (map function_tree (take (i + 1) tops)) before after
+adds_one m tops i top before middle after g within top_is so one e =
+    let fs : map function_tree (take (i + 1) tops) ≡ map function_tree (take i tops) ++ function_tree top ∷ [] =
+    ap (map function_tree) (take_more tops i top within ∙ ap (λ (t : Top). take i tops ++ t ∷ []) (sym top_is)) ∙ map-append function_tree (take i tops) (top ∷ []) in
     record {
-      distinct = subst (λ vs. are_distinct (map (λ v. v.name) vs) ≡ true) are (counted_distinct (first_word ∷ f.locals) 0 last all small);
-      all_named = subst NamedVars are named;
-      params_named = subst NamedVars (sym params) (named.0, tt);
-      locals_named = named.1;
-      locals = subst (λ vs. AreLocals vs f.locals) are (others_local first_word f.locals (counted_locals (first_word ∷ f.locals) 0 last all small));
+      added = so.added ++ g ∷ [];
+      is = e ∙ ap (λ is. is ++ defined g ∷ []) so.is ∙ append_assoc before (map defined so.added) (defined g ∷ []) ∙ ap (λ is. before ++ is) (sym (map-append defined so.added (g ∷ [])));
+      are = subst (λ hs. AreFunctionsOf m hs (so.added ++ g ∷ [])) (sym fs) (one_more m (map function_tree (take i tops)) so.added (function_tree top) g so.are one);
     }
 
--- Its statements ----------------------------------------------------------------------------
+pub pushed_item : (before after : List CItem) (g : CFun) → after ≡ before ++ Defined g ∷ [] → items_of after ≡ items_of before ++ defined (fun_of g) ∷ []
+pushed_item before after g e = ap items_of e ∙ map-append item_of before (Defined g ∷ [])
 
-whole_body : (vars : List CVar) (b : Tree) (live : List Name) (code : Code) → IsBody b → Tr vars b Obj live back code done → Tr vars (Sequence (more b none)) Obj live back code done
-unfolding Tr
-whole_body vars (Constant c) live code h t = absurd h
-whole_body vars (Sequence ts) live code h t = t
-whole_body vars (Primitive p ns) live code h t = absurd h
+-- a function at a place is one of the module
+function_got : (functions fs : List FunctionTree) (tops : List Top) (i : ℕ) (d : Top) → fs ≡ map function_tree tops → i < length tops → AreFunctions functions fs → IsFunction functions (function_tree (get_or tops i d))
+function_got functions fs [] i d e within all = absurd (omega arith)
+function_got functions [] (t ∷ ts) i d e within all = absurd (cc)
+function_got functions (f ∷ fs) (t ∷ ts) zero d e within all = let same : f ≡ function_tree t = cc in subst (IsFunction functions) same all.0
+function_got functions (f ∷ fs) (t ∷ ts) (suc i) d e within all = let others : fs ≡ map function_tree ts = cc in function_got functions fs ts i d others (omega arith) all.1
 
-fine_body : (vars : List CVar) (named : (x : Name) (t : CTy) → IsLocal vars x t → IsTrue (is_local_name x)) (b : Tree) (live : List Name) (code : Code) → IsBody b → Tr vars b Obj live back code done → Fine vars named code
-unfolding Tr
-fine_body vars named (Constant c) live code h t = absurd h
-fine_body vars named (Sequence none) live code h t = absurd h
-fine_body vars named (Sequence (more n ns)) live code h t = fine_last vars named (more n ns) h live code done t (fine_done vars named)
-fine_body vars named (Primitive p ns) live code h t = absurd h
+pub function_at : (functions : List FunctionTree) (tops : List Top) (i : ℕ) (top : Top) → i < length tops → top ≡ get_or tops i top → AreFunctions functions (map function_tree tops) → IsFunction functions (function_tree top)
+function_at functions tops i top within top_is all = subst (λ (t : Top). IsFunction functions (function_tree t)) (sym top_is) (function_got functions (map function_tree tops) tops i top refl within all)
 
 -- The unit ----------------------------------------------------------------------------------
 
-sound_from : (g : Fun) (l : Name) (body : Code) → is_main g.name ≡ false → are_distinct (map (λ v. v.name) (variables_of g)) ≡ true → g.result ≡ c_ty.Obj → g.code ≡ loop l body done
-    → code_fits [] (variables_of g) c_ty.Obj body ≡ true → IsTrue (is_sound (defined g ∷ []))
-unfolding is_sound
-sound_from g l body not_main distinct result code_is fits =
-    let vars = variables_of g in
-    let loops : (if is_main g.name then is_main_function [] g else is_looped vars g.result g.code) ≡ true =
-    ap (λ b. if b then is_main_function [] g else is_looped vars g.result g.code) not_main
-    ∙ ap (λ r. is_looped vars r g.code) result ∙ ap (is_looped vars c_ty.Obj) code_is ∙ fits in
-    let whole : function_fits [] g ≡ true = and_from (are_distinct (map (λ v. v.name) vars)) (if is_main g.name then is_main_function [] g else is_looped vars g.result g.code) distinct loops in
-    and_from (function_fits [] g) true whole refl
+-- functions put in front of others, one after another
+abbrev stacked : List FunctionTree → List FunctionTree → List FunctionTree
+stacked [] hs = hs
+stacked (f ∷ fs) hs = stacked fs (f ∷ hs)
 
-named_body : (l : Name) (body code : Code) → code ≡ loop l body done → IsTrue (is_label_name l) → NamedCode body → NamedBody code
-named_body l body code e label named = subst NamedBody (sym e) (label, named, refl)
+stacked_under : (f : FunctionTree) (fs hs : List FunctionTree) → Has f hs → Has f (stacked fs hs)
+stacked_under f [] hs h = h
+stacked_under f (g ∷ gs) hs h = stacked_under f gs (g ∷ hs) (inr h)
 
-pub translated_from : (m : ModuleTree) → IsWellFormed m → (f : FunctionTree) → m.functions ≡ f ∷ [] → (g : Fun) → IsBody f.body → IsFunctionOf m.name f.name f.body g
-    → (parameter : VarId) → f.params ≡ parameter ∷ [] → Translated m (defined g ∷ [])
-translated_from m w f only g body_is is parameter params =
-    let has = has_variables g is.last is.params is.small is.counted in
-    let named : (x : Name) (t : CTy) → IsLocal (variables_of g) x t → IsTrue (is_local_name x) = λ x t l. local_named (variables_of g) x t has.all_named l in
-    let t = is.translated has.locals in
-    let fine = fine_body (variables_of g) named f.body (local_name 0 ∷ []) is.code body_is t in
-    let one : TrFunction m.name f g = record {
-      name = is.name_is;
-      result = is.result;
-      params = ap (map (λ v. v.ty)) is.params ∙ ap (map (λ _. c_ty.Obj)) (sym params);
-      label = label_name 0;
-      body = is.code;
-      looped = is.looped;
-      translated = subst (λ live. Tr (variables_of g) (Sequence (more f.body none)) Obj live back is.code done) (ap (map (λ v. v.name)) (sym is.params))
-          (whole_body (variables_of g) f.body (local_name 0 ∷ []) is.code body_is t);
-    } in
-    record {
-      functions = subst (λ fs. TrFunctions m.name fs (defined g ∷ [])) (sym only) (one, tt);
-      named = ((is.named, has.params_named, has.locals_named, named_body (label_name 0) is.code g.code is.looped (is_label_name-label_name 0 (omega arith)) fine.named), tt);
-      sound = sound_from g (label_name 0) is.code (ap is_main is.name_is ∙ function_name_not_main m.name f.name) has.distinct is.result is.looped fine.fits;
-    }
+stacked_has : (f : FunctionTree) (fs hs : List FunctionTree) → Has f fs → Has f (stacked fs hs)
+stacked_has f [] hs h = absurd h
+stacked_has f (g ∷ gs) hs h = elim h [
+  | inl e ↦ stacked_under f gs (g ∷ hs) (inl e)
+  | inr j ↦ stacked_has f gs (g ∷ hs) j
+]
 
--- The module --------------------------------------------------------------------------------
+with_one : (fs hs : List FunctionTree) (f : FunctionTree) → Has f fs → Within hs fs → Within (f ∷ hs) fs
+with_one fs hs f here within = λ h j. elim j [
+  | inl e ↦ subst (λ k. Has k fs) (sym e) here
+  | inr i ↦ within h i
+]
 
-pub only_top : (tops : List Top) (f : FunctionTree) (top : Top) → map function_tree tops ≡ f ∷ [] → top ≡ get_or tops 0 top → function_tree top ≡ f
-only_top [] f top e is = absurd (cc)
-only_top (t ∷ ts) f top e is = let same : function_tree t ≡ f = cc in ap function_tree is ∙ same
+stacked_within : (all fs hs : List FunctionTree) → Within fs all → Within hs all → Within (stacked fs hs) all
+stacked_within all [] hs some within = within
+stacked_within all (f ∷ fs) hs some within = stacked_within all fs (f ∷ hs) (λ h j. some h (inr j)) (with_one all hs f (some f (inl refl)) within)
+
+module _ (m : ModuleTree) (w : IsWellFormed m) where
+  abbrev signatures : List FunctionTree → List Signature
+  signatures hs = map (signature m.name) hs
+
+  abbrev names : List Name
+  names = names_of m.name m.functions
+
+  -- declarations fit, and leave their signatures
+  declared_fit : (fs hs : List FunctionTree) (rest : List Item) → Within fs m.functions → Within hs m.functions → items_fit names (signatures (stacked fs hs)) rest ≡ true
+      → items_fit names (signatures hs) (map (declaration m.name) fs ++ rest) ≡ true
+  declared_fit [] hs rest some within end = end
+  declared_fit (f ∷ fs) hs rest some within end =
+      let here = some f (inl refl) in
+      let others = declared_fit fs (f ∷ hs) rest (λ h j. some h (inr j)) (with_one m.functions hs f here within) end in
+      let first : (agrees (signatures hs) (signature m.name f) && true) ≡ true = and_from (agrees (signatures hs) (signature m.name f)) true (agree m.name m.functions w.distinct f hs here within) refl in
+      and_from (agrees (signatures hs) (signature m.name f) && true) (items_fit names (signature m.name f ∷ signatures hs) (map (declaration m.name) fs ++ rest)) first others
+
+  defined_one : (f : FunctionTree) (hs : List FunctionTree) (g : Fun) (rest : List Item) → Has f m.functions → Within hs m.functions → Fits m (signatures hs) f g
+      → items_fit names (signature m.name f ∷ signatures hs) rest ≡ true → items_fit names (signatures hs) (defined g ∷ rest) ≡ true
+  defined_one f hs g rest here within one others =
+      let s = signature_of (defined g) in
+      let may : function_fits (callable names (signatures hs)) g ≡ true = ap (λ sigs. function_fits sigs g) (all_callable m.name m.functions w.distinct hs within) ∙ one.fits in
+      let same : agrees (signatures hs) s ≡ true = ap (agrees (signatures hs)) one.signature_is ∙ agree m.name m.functions w.distinct f hs here within in
+      let end : items_fit names (s ∷ signatures hs) rest ≡ true = subst (λ t. items_fit names (t ∷ signatures hs) rest ≡ true) (sym one.signature_is) others in
+      and_from (agrees (signatures hs) s && function_fits (callable names (signatures hs)) g) (items_fit names (s ∷ signatures hs) rest)
+      (and_from (agrees (signatures hs) s) (function_fits (callable names (signatures hs)) g) same may) end
+
+  defined_fit : (fs hs : List FunctionTree) (gs : List Fun) → Within fs m.functions → Within hs m.functions → Within m.functions hs → AreFunctionsOf m fs gs
+      → items_fit names (signatures hs) (map defined gs) ≡ true
+  defined_fit [] hs [] some within covers all = refl
+  defined_fit [] hs (g ∷ gs) some within covers all = absurd all
+  defined_fit (f ∷ fs) hs [] some within covers all = absurd all
+  defined_fit (f ∷ fs) hs (g ∷ gs) some within covers all =
+      let here = some f (inl refl) in
+      let one = function_fits_module m w hs f g within covers (is_function m.functions m.functions f w.functions here) all.0 in
+      defined_one f hs g (map defined gs) here within one
+      (defined_fit fs (f ∷ hs) gs (λ h j. some h (inr j)) (with_one m.functions hs f here within) (λ h j. inr (covers h j)) all.1)
+
+  declared_names : (fs : List FunctionTree) (rest : List Item) → defined_names (map (declaration m.name) fs ++ rest) ≡ defined_names rest
+  declared_names [] rest = refl
+  declared_names (f ∷ fs) rest = declared_names fs rest
+
+  names_are : (fs : List FunctionTree) (gs : List Fun) → AreFunctionsOf m fs gs → defined_names (map defined gs) ≡ names_of m.name fs
+  names_are [] [] all = refl
+  names_are [] (g ∷ gs) all = absurd all
+  names_are (f ∷ fs) [] all = absurd all
+  names_are (f ∷ fs) (g ∷ gs) all = ap (λ x. x ∷ defined_names (map defined gs)) all.0.name_is ∙ ap (λ xs. function_name m.name f.name ∷ xs) (names_are fs gs all.1)
+
+  everything : Within m.functions m.functions
+  everything = λ h j. j
+
+  nothing : Within [] m.functions
+  nothing = λ h j. absurd j
+
+  sound : (gs : List Fun) → AreFunctionsOf m m.functions gs → IsTrue (is_sound (declarations_of m ++ map defined gs))
+  unfolding is_sound
+  sound gs all =
+      let items = declarations_of m ++ map defined gs in
+      let are : defined_names items ≡ names = declared_names m.functions (map defined gs) ∙ names_are m.functions gs all in
+      let within : Within (stacked m.functions []) m.functions = stacked_within m.functions m.functions [] everything nothing in
+      let fit : items_fit names [] items ≡ true =
+      declared_fit m.functions [] (map defined gs) everything nothing
+      (defined_fit m.functions (stacked m.functions []) gs everything within (λ h j. stacked_has h m.functions [] j) all) in
+      and_from (are_distinct (defined_names items)) (items_fit (defined_names items) [] items) (ap are_distinct are ∙ names_distinct m.name m.functions ∙ w.distinct)
+      (subst (λ ns. items_fit ns [] items ≡ true) (sym are) fit)
+
+  -- each definition
+  one_fits : (f : FunctionTree) (g : Fun) → Has f m.functions → IsFunctionOf m f g → Fits m (signatures (stacked m.functions [])) f g
+  one_fits f g here is =
+      function_fits_module m w (stacked m.functions []) f g (stacked_within m.functions m.functions [] everything nothing) (λ h j. stacked_has h m.functions [] j)
+      (is_function m.functions m.functions f w.functions here) is
+
+  named_definitions : (fs : List FunctionTree) (gs : List Fun) → Within fs m.functions → AreFunctionsOf m fs gs → NamedItems (map defined gs)
+  named_definitions [] [] some all = tt
+  named_definitions [] (g ∷ gs) some all = absurd all
+  named_definitions (f ∷ fs) [] some all = absurd all
+  named_definitions (f ∷ fs) (g ∷ gs) some all = ((one_fits f g (some f (inl refl)) all.0).named, named_definitions fs gs (λ h j. some h (inr j)) all.1)
+
+  named_all : (fs : List FunctionTree) (rest : List Item) → Within fs m.functions → NamedItems rest → NamedItems (map (declaration m.name) fs ++ rest)
+  named_all [] rest some end = end
+  named_all (f ∷ fs) rest some end =
+      (named_function m.name f.name w.name (is_function m.functions m.functions f w.functions (some f (inl refl))).name, named_all fs rest (λ h j. some h (inr j)) end)
+
+  translated_definitions : (fs : List FunctionTree) (gs : List Fun) → Within fs m.functions → AreFunctionsOf m fs gs → TrFunctions m.name m.functions fs (map defined gs)
+  translated_definitions [] [] some all = tt
+  translated_definitions [] (g ∷ gs) some all = absurd all
+  translated_definitions (f ∷ fs) [] some all = absurd all
+  translated_definitions (f ∷ fs) (g ∷ gs) some all = ((one_fits f g (some f (inl refl)) all.0).translated, translated_definitions fs gs (λ h j. some h (inr j)) all.1)
+
+  translated_all : (fs ds : List FunctionTree) (rest : List Item) → TrFunctions m.name m.functions fs rest → TrFunctions m.name m.functions fs (map (declaration m.name) ds ++ rest)
+  translated_all fs [] rest end = end
+  translated_all [] (d ∷ ds) rest end = translated_all [] ds rest end
+  translated_all (f ∷ fs) (d ∷ ds) rest end = translated_all (f ∷ fs) ds rest end
+
+  own_definitions : (gs : List Fun) → AreOwn m.name m.functions (map defined gs)
+  own_definitions [] = tt
+  own_definitions (g ∷ gs) = own_definitions gs
+
+  own_all : (fs : List FunctionTree) (rest : List Item) → Within fs m.functions → AreOwn m.name m.functions rest → AreOwn m.name m.functions (map (declaration m.name) fs ++ rest)
+  own_all [] rest some end = end
+  own_all (f ∷ fs) rest some end = (in_names m.name m.functions f (some f (inl refl)), own_all fs rest (λ h j. some h (inr j)) end)
+
+  pub translated_from : (items : List Item) → AddsFunctions m m.functions (declarations_of m) items → Translated m items
+  translated_from items adds =
+      subst (Translated m) (sym adds.is) (record {
+        functions = translated_all m.functions m.functions (map defined adds.added) (translated_definitions m.functions adds.added everything adds.are);
+        own = own_all m.functions (map defined adds.added) everything (own_definitions adds.added);
+        named = named_all m.functions (map defined adds.added) everything (named_definitions m.functions adds.added everything adds.are);
+        sound = sound adds.added adds.are;
+      })

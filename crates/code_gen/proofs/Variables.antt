@@ -1,6 +1,6 @@
 -- The variables of a function that is generated: numbered names, so distinct, each found with its type.
-use Rattle.std.proofs.Common.{◌≡◌, ℕ, suc, ◌+◌, ◌<◌, ◌≤◌, ◌^◌, Bool, true, false, List, [], ◌∷◌, ◌++◌, map, Option, Some, None, refl, sym, ap, ◌∙◌, subst, arith}
-use Rattle.std.specs.Prelude.{not, ◌&&◌, ◌||◌, IsTrue, if◌then◌else◌}
+use Rattle.std.proofs.Common.{◌≡◌, ℕ, suc, ◌<◌, ◌≤◌, ◌^◌, Bool, true, false, List, [], ◌∷◌, map, Some, refl, sym, ap, ◌∙◌, subst, arith}
+use Rattle.std.specs.Prelude.{not, ◌||◌, IsTrue, if◌then◌else◌}
 use Rattle.std.specs.List.{list_any}
 use Rattle.std.specs.Cmp.Lexicographic.{same_text, other_text}
 use Rattle.std.proofs.lemmas.Bool.{and_from}
@@ -28,7 +28,7 @@ is_itself a = go (is_same a a) refl
     go true e = refl
     go false e = absurd (other_text a a (sym e) refl)
 
-other_name : (a b : Name) → (a ≡ b → ⊥) → is_same a b ≡ false
+pub other_name : (a b : Name) → (a ≡ b → ⊥) → is_same a b ≡ false
 other_name a b ne = go (is_same a b) refl
   where
     go : (x : Bool) → is_same a b ≡ x → x ≡ false

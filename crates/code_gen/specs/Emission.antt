@@ -1,14 +1,15 @@
 -- What the emitter adds: for any rest after it, code in front of the rest that is related to what was asked for.
-use Rattle.std.specs.Prelude.{◌≡◌, ℕ, suc, ◌<◌, ◌≤◌, ◌^◌, List, [], ◌∷◌, ◌++◌, map, IsTrue, Option, Some, None}
+use Rattle.std.specs.Prelude.{◌≡◌, ℕ, suc, ◌<◌, ◌≤◌, ◌^◌, List, [], ◌∷◌, ◌++◌, map, true, false, length, Option, Some, None}
 use Rattle.prim_table.specs.declared.primitives.Ty.{Ty}
 use Rattle.prim_table.specs.declared.primitives.Primitive.{Primitive as Builtin}
 use Rattle.prim_table.specs.Table.{params_of}
 use Rattle.core_tree.specs.declared.tree.Const.{Const}
 use Rattle.core_tree.specs.declared.tree.Const.TheVariants.{Int}
-use Rattle.core_tree.specs.Tree.{Tree, Trees}
+use Rattle.core_tree.specs.declared.tree.VarId.{VarId}
+use Rattle.core_tree.specs.declared.tree.GlobalRef.{GlobalRef}
+use Rattle.core_tree.specs.Tree.{Tree, Trees, FunctionTree, ModuleTree, function_of}
 use Rattle.c_tree.specs.declared.op.Op.{Op}
 use Rattle.c_tree.specs.declared.op.Op.TheVariants.{BoxLong, Primitive as Does}
-use Rattle.c_tree.specs.declared.tree.CTy.{CTy}
 use Rattle.c_tree.specs.declared.tree.CTy.TheVariants as c_ty
 use Rattle.c_tree.specs.declared.tree.CArg.{CArg}
 use Rattle.c_tree.specs.declared.tree.CCall.{CCall}
@@ -16,13 +17,15 @@ use Rattle.c_tree.specs.declared.tree.CExpr.{CExpr}
 use Rattle.c_tree.specs.declared.tree.CExpr.TheVariants as expr
 use Rattle.c_tree.specs.declared.tree.CStmt.{CStmt}
 use Rattle.c_tree.specs.declared.tree.CVar.{CVar}
-use Rattle.c_tree.specs.Code.{Code, done, assign, return, loop, onto, Fun}
-use Rattle.c_tree.specs.Names.{local_name, label_name, function_name, is_function_name}
-use Rattle.c_meaning.specs.Checked.{is_typed, variable_named, variables_of}
+use Rattle.c_tree.specs.Code.{Code, done, assign, return, loop, onto, Fun, Item, declared, defined}
+use Rattle.c_tree.specs.Names.{local_name, label_name, function_name}
+use Rattle.c_meaning.specs.Checked.{variables_of}
 use Rattle.plan_rules.specs.declared.rep.Rep.{Rep}
 use Rattle.plan_rules.specs.declared.rep.Rep.TheVariants.{Obj, Long}
-use Rattle.plan_rules.specs.Representation.{c_type_of, has_of, operation, local, fixnum_expr, Step, Keep, Make, step}
-use Rattle.plan_rules.specs.Translation.{Name, Fresh, IsLocal, Coerced, Fits, AllFit, haves, into, back, Tr, TrUnused, TrArguments}
+use Rattle.plan_rules.specs.Representation.{c_type_of, has_of, operation, call_of, local, fixnum_expr, Step, Keep, Make, step}
+use Rattle.plan_rules.specs.Translation.{Name, Fresh, IsLocal, Coerced, Fits, AllFit, Miscounted, haves, objects, is_counted, into, back}
+use Rattle.code_gen.specs.Scopes.{words}
+use Rattle.code_gen.specs.Settings.{Setting, scope_in, TrIn, TrUnusedIn, TrArgumentsIn}
 use Rattle.code_gen.specs.declared.emitter.Emitter.{Emitter}
 use Rattle.code_gen.specs.declared.emitter.Held.{Held}
 
@@ -90,23 +93,39 @@ pub record Emits (s t : Emitter) (means : List CVar → Code → Code → Type 0
   pub kept : (vars : List CVar) → AreLocals vars t.locals → AreLocals vars s.locals
   pub code : (vars : List CVar) → AreLocals vars t.locals → (rest : Code) → Written s.stmts t.stmts (λ code. means vars code rest) rest
 
+-- a value that is put into a new local
+pub record Stores (s t : Emitter) (h : Rep) (e : CExpr) (held : Held) : Type 0 where
+  pub rep : held.rep ≡ h
+  pub number : held.local ≡ s.next
+  pub small : held.local < 2 ^ 32
+  pub next_is : t.next ≡ suc held.local
+  pub emits : Emits s t (λ vars code rest. (code ≡ assign (local_name held.local) e rest) × IsLocal vars (local_name held.local) (c_type_of h))
+
+-- a new local into which no value is put
+pub record LeavesUnset (s t : Emitter) (h : Rep) (held : Held) : Type 0 where
+  pub rep : held.rep ≡ h
+  pub number : held.local ≡ s.next
+  pub small : held.local < 2 ^ 32
+  pub next_is : t.next ≡ suc held.local
+  pub emits : Emits s t (λ vars code rest. (code ≡ rest) × IsLocal vars (local_name held.local) (c_type_of h))
+
 -- Nodes -------------------------------------------------------------------------------------
 
 -- a node's value in the local of a number
-pub record Gives (t : Tree) (h : Rep) (next x : ℕ) (vars : List CVar) (code rest : Code) : Type 0 where
+pub record Gives (w : Setting) (t : Tree) (h : Rep) (next x : ℕ) (vars : List CVar) (code rest : Code) : Type 0 where
   pub is_local : IsLocal vars (local_name x) (c_type_of h)
   pub fresh : (live : List Name) → AreBelow next live → Fresh (local_name x) live
-  pub given : (live : List Name) → AreBelow next live → Tr vars t h live (into (local_name x)) code rest
+  pub given : (live : List Name) → AreBelow next live → TrIn w vars t h live (into (local_name x)) code rest
 
-pub record IsValue (s t : Emitter) (n : Tree) (wanted : Rep) (held : Held) : Type 0 where
-  pub rep : held.rep ≡ has_of n wanted
+pub record IsValue (w : Setting) (s t : Emitter) (n : Tree) (wanted : Rep) (held : Held) : Type 0 where
+  pub rep : held.rep ≡ has_of (scope_in w) n wanted
   pub below : held.local < t.next
-  pub emits : Emits s t (λ vars code rest. Gives n (has_of n wanted) s.next held.local vars code rest)
+  pub emits : Emits s t (λ vars code rest. Gives w n (has_of (scope_in w) n wanted) s.next held.local vars code rest)
 
-pub record AreArguments (s t : Emitter) (types : List Ty) (ns : Trees) (held : List Held) : Type 0 where
+pub record AreArguments (w : Setting) (s t : Emitter) (types : List Ty) (ns : Trees) (held : List Held) : Type 0 where
   pub below : AreBelow t.next (held_names held)
-  pub reps : (vars : List CVar) → haves vars types ns ≡ map (λ h. h.rep) held
-  pub emits : Emits s t (λ vars code rest. (live : List Name) → AreBelow s.next live → TrArguments vars types ns live (held_names held) code rest)
+  pub reps : haves (scope_in w) types ns ≡ map (λ h. h.rep) held
+  pub emits : Emits s t (λ vars code rest. (live : List Name) → AreBelow s.next live → TrArgumentsIn w vars types ns live (held_names held) code rest)
 
 pub record IsFitted (s t : Emitter) (type : Ty) (held : Held) (made : ℕ) : Type 0 where
   pub below : AreBelow t.next (local_name made ∷ [])
@@ -115,28 +134,52 @@ pub record IsFitted (s t : Emitter) (type : Ty) (held : Held) (made : ℕ) : Typ
 pub record AreFitted (s t : Emitter) (types : List Ty) (held : List Held) (made : List ℕ) : Type 0 where
   pub emits : Emits s t (λ vars code rest. (live : List Name) → AreBelow s.next live → AllFit vars types (map (λ h. h.rep) held) (held_names held) live code (map local_name made) rest)
 
--- arguments that are ready for an operation
-pub record AreReady (p : Builtin) (ns : Trees) (live : List Name) (args : List CArg) (vars : List CVar) (code last : Code) : Type 0 where
+-- arguments that are ready for a call
+pub record AreReady (w : Setting) (types : List Ty) (ns : Trees) (live : List Name) (args : List CArg) (vars : List CVar) (code last : Code) : Type 0 where
   pub temporaries : List Name
   pub made : List Name
   pub middle : Code
-  pub values : TrArguments vars (params_of p) ns live temporaries code middle
-  pub fit : AllFit vars (params_of p) (haves vars (params_of p) ns) temporaries (temporaries ++ live) middle made last
+  pub values : TrArgumentsIn w vars types ns live temporaries code middle
+  pub fit : AllFit vars types (haves (scope_in w) types ns) temporaries (temporaries ++ live) middle made last
   pub args_are : args ≡ map local made
 
-pub record IsReady (s t : Emitter) (p : Builtin) (ns : Trees) (call : CCall) : Type 0 where
+pub record IsReady (w : Setting) (s t : Emitter) (types : List Ty) (ns : Trees) (args : List CArg) : Type 0 where
+  pub emits : Emits s t (λ vars code rest. (live : List Name) → AreBelow s.next live → AreReady w types ns live args vars code rest)
+
+pub record IsPrimitiveCall (w : Setting) (s t : Emitter) (p : Builtin) (ns : Trees) (call : CCall) : Type 0 where
   pub args : List CArg
   pub is : call ≡ operation (Does p) args
-  pub emits : Emits s t (λ vars code rest. (live : List Name) → AreBelow s.next live → AreReady p ns live args vars code rest)
+  pub ready : IsReady w s t (params_of p) ns args
 
-pub record IsUnused (s t : Emitter) (n : Tree) : Type 0 where
-  pub emits : Emits s t (λ vars code rest. (live : List Name) → AreBelow s.next live → TrUnused vars n live code rest)
+pub record IsCounted (w : Setting) (s t : Emitter) (f : FunctionTree) (ns : Trees) (call : CCall) : Type 0 where
+  pub args : List CArg
+  pub counted : is_counted f ns ≡ true
+  pub is : call ≡ call_of (function_name w.module_name f.name) args
+  pub ready : IsReady w s t (objects ns) ns args
 
-abbrev pub Returned : Tree → List Name → List CVar → Code → Code → Type 0
-Returned n live vars code rest = Coerced vars (has_of n Obj) Obj (λ place code rest. Tr vars n (has_of n Obj) live place code rest) live back code rest
+pub record IsMiscounted (w : Setting) (s t : Emitter) (f : FunctionTree) (ns : Trees) : Type 0 where
+  pub counted : is_counted f ns ≡ false
+  pub emits : Emits s t (λ vars code rest. (live : List Name) → AreBelow s.next live
+      → Miscounted vars (λ temporaries code middle. TrArgumentsIn w vars (objects ns) ns live temporaries code middle) (length f.params) code rest)
 
-pub record IsReturned (s t : Emitter) (n : Tree) : Type 0 where
-  pub emits : Emits s t (λ vars code rest. (live : List Name) → AreBelow s.next live → Returned n live vars code rest)
+-- a call, or the raising of an error in its place
+abbrev pub IsCallOf : Setting → Emitter → Emitter → FunctionTree → Trees → Option CCall → Type 0
+IsCallOf w s t f ns None = IsMiscounted w s t f ns
+IsCallOf w s t f ns (Some call) = IsCounted w s t f ns call
+
+pub record IsOwnCall (w : Setting) (s t : Emitter) (g : GlobalRef) (ns : Trees) (call : Option CCall) : Type 0 where
+  pub callee : FunctionTree
+  pub found : function_of w.functions g ≡ Some callee
+  pub written : IsCallOf w s t callee ns call
+
+pub record IsUnused (w : Setting) (s t : Emitter) (n : Tree) : Type 0 where
+  pub emits : Emits s t (λ vars code rest. (live : List Name) → AreBelow s.next live → TrUnusedIn w vars n live code rest)
+
+abbrev pub Returned : Setting → Tree → List Name → List CVar → Code → Code → Type 0
+Returned w n live vars code rest = Coerced vars (has_of (scope_in w) n Obj) Obj (λ place code rest. TrIn w vars n (has_of (scope_in w) n Obj) live place code rest) live back code rest
+
+pub record IsReturned (w : Setting) (s t : Emitter) (n : Tree) : Type 0 where
+  pub emits : Emits s t (λ vars code rest. (live : List Name) → AreBelow s.next live → Returned w n live vars code rest)
 
 -- a call's number, boxed and returned
 pub record GivesBoxed (s t : Emitter) (c : CCall) : Type 0 where
@@ -146,25 +189,43 @@ pub record GivesBoxed (s t : Emitter) (c : CCall) : Type 0 where
   pub small : local_is < 2 ^ 32
   pub number : local_is ≡ s.next
 
-pub record IsBodyOf (s t : Emitter) (n : Tree) : Type 0 where
-  pub emits : Emits s t (λ vars code rest. (live : List Name) → AreBelow s.next live → Tr vars n Obj live back code rest)
+pub record IsBodyOf (w : Setting) (s t : Emitter) (n : Tree) : Type 0 where
+  pub emits : Emits s t (λ vars code rest. (live : List Name) → AreBelow s.next live → TrIn w vars n Obj live back code rest)
 
 -- Functions ---------------------------------------------------------------------------------
 
-abbrev pub first_word : CVar
-first_word = record { ty = c_ty.Obj; name = local_name 0 }
+abbrev pub setting_of : ModuleTree → FunctionTree → Setting
+setting_of m f = record { module_name = m.name; functions = m.functions; params = f.params }
 
-abbrev pub IsOnlyWord : List CVar → Type 0
-IsOnlyWord params = params ≡ first_word ∷ []
+abbrev pub word_names : List VarId → List Name
+word_names params = map (λ v. v.name) (words 0 params)
 
-pub record IsFunctionOf (module_name name : List ℕ) (body : Tree) (f : Fun) : Type 0 where
-  pub name_is : f.name ≡ function_name module_name name
-  pub named : IsTrue (is_function_name f.name)
-  pub result : f.result ≡ c_ty.Obj
-  pub params : IsOnlyWord f.params
+pub record IsFunctionOf (m : ModuleTree) (f : FunctionTree) (g : Fun) : Type 0 where
+  pub name_is : g.name ≡ function_name m.name f.name
+  pub result : g.result ≡ c_ty.Obj
+  pub params : g.params ≡ words 0 f.params
   pub last : ℕ
   pub small : last ≤ 2 ^ 32
-  pub counted : AreCounted f.locals 1 last
+  pub counted : AreCounted g.locals (length f.params) last
   pub code : Code
-  pub looped : f.code ≡ loop (label_name 0) code done
-  pub translated : AreLocals (variables_of f) f.locals → Tr (variables_of f) body Obj (local_name 0 ∷ []) back code done
+  pub looped : g.code ≡ loop (label_name 0) code done
+  pub translated : AreLocals (variables_of g) g.locals → TrIn (setting_of m f) (variables_of g) f.body Obj (word_names f.params) back code done
+
+-- Units -------------------------------------------------------------------------------------
+
+abbrev pub declaration : Name → FunctionTree → Item
+declaration m f = declared c_ty.Obj (function_name m f.name) (map (λ _. c_ty.Obj) f.params)
+
+abbrev pub declarations_of : ModuleTree → List Item
+declarations_of m = map (declaration m.name) m.functions
+
+abbrev pub AreFunctionsOf : ModuleTree → List FunctionTree → List Fun → Type 0
+AreFunctionsOf m [] [] = Unit {0}
+AreFunctionsOf m (f ∷ fs) (g ∷ gs) = IsFunctionOf m f g × AreFunctionsOf m fs gs
+AreFunctionsOf m [] (g ∷ gs) = ⊥
+AreFunctionsOf m (f ∷ fs) [] = ⊥
+
+pub record AddsFunctions (m : ModuleTree) (fs : List FunctionTree) (before after : List Item) : Type 0 where
+  pub added : List Fun
+  pub is : after ≡ before ++ map defined added
+  pub are : AreFunctionsOf m fs added

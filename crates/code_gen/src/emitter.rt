@@ -1,6 +1,6 @@
 ghost use Rattle.std.specs.Prelude.{◌≡◌, IfOk, OnOk};
 ghost use Rattle.c_tree.specs.Names.{local_name};
-ghost use Rattle.code_gen.specs.Emission.{IsFresh, AddsLocal, Puts};
+ghost use Rattle.code_gen.specs.Emission.{IsFresh, AddsLocal, Puts, Stores, LeavesUnset};
 
 use crate::parts::c_type;
 use c_tree::{CCall, CExpr, CStmt, CVar, local_name_text};
@@ -37,8 +37,8 @@ impl Emitter {
         }
     }
 
-    /// A new local, which the next number names.
-    pub fn local(&mut self, rep: Rep) -> Result<u32, OutOfMemory>
+    // A new local, which the next number names.
+    fn local(&mut self, rep: Rep) -> Result<u32, OutOfMemory>
         ensures { IfOk result (λ x. AddsLocal self.old self.new rep x) }
     {
         let number = self.next;
@@ -52,11 +52,28 @@ impl Emitter {
         Ok(number)
     }
 
-    pub fn assign(&mut self, x: u32, value: CExpr) -> Result<(), OutOfMemory>
+    fn assign(&mut self, x: u32, value: CExpr) -> Result<(), OutOfMemory>
         ensures { OnOk result (Puts self.old self.new (CStmt.Assign (local_name x) value)) }
     {
         let name = local_name_text(self.alloc, x)?;
         self.stmts.push(CStmt::Assign(name, value))
+    }
+
+    /// A value in a new local.
+    pub fn store(&mut self, rep: Rep, value: CExpr) -> Result<Held, OutOfMemory>
+        ensures { IfOk result (λ held. Stores self.old self.new rep value held) }
+    {
+        let local = self.local(rep)?;
+        self.assign(local, value)?;
+        Ok(Held { local, rep })
+    }
+
+    /// A new local for a value that never comes.
+    pub fn unset(&mut self, rep: Rep) -> Result<Held, OutOfMemory>
+        ensures { IfOk result (λ held. LeavesUnset self.old self.new rep held) }
+    {
+        let local = self.local(rep)?;
+        Ok(Held { local, rep })
     }
 
     pub fn call(&mut self, call: CCall) -> Result<(), OutOfMemory>

@@ -1,65 +1,69 @@
-ghost use Rattle.std.specs.Prelude.{◌≡◌, ◌<◌, IfOk, length};
-ghost use Rattle.core_tree.specs.Tree.{module_tree, function_tree, tree};
-ghost use Rattle.core_tree.specs.WellFormed.{IsWellFormed, IsBody};
-ghost use Rattle.c_tree.specs.Code.{items_of, fun_of};
+ghost use Rattle.std.specs.Prelude.{◌≡◌, IfOk, OnOk};
+ghost use Rattle.core_tree.specs.Tree.{module_tree, function_tree};
+ghost use Rattle.core_tree.specs.WellFormed.{IsWellFormed, IsFunction, AreFunctions};
+ghost use Rattle.c_tree.specs.Code.{items_of, item_of, fun_of};
 ghost use Rattle.plan_rules.specs.Translation.{Translated};
-ghost use Rattle.code_gen.specs.Emission.{IsOnlyWord, IsFunctionOf};
+ghost use Rattle.code_gen.specs.Emission.{IsFunctionOf, declaration, declarations_of, AddsFunctions};
 
+use crate::context::{Context, Params, body_of, name_of, params_of};
 use crate::emitter::Emitter;
 use crate::nodes::body;
-use c_tree::{
-    CBody, CFun, CItem, CTy, CUnit, CVar, function_name_text, label_name_text, local_name_text,
-};
-use core_tree::{Module, Node, Top};
-use scheme_data::{List, OutOfMemory, Text};
+use c_tree::{CBody, CFun, CItem, CTy, CUnit, function_name_text, label_name_text};
+use core_tree::{Module, Top};
+use scheme_data::{List, OutOfMemory};
 use std::alloc::Global;
 
-// The only parameter, a word.
-fn parameter(alloc: Global) -> Result<List<CVar>, OutOfMemory>
-    ensures { IfOk result IsOnlyWord }
+fn declaration(alloc: Global, m: &Module, top: &Top) -> Result<CItem, OutOfMemory>
+    ensures { IfOk result (λ item. item_of item ≡ declaration (module_tree m.now).name (function_tree top.now)) }
 {
     let mut params = List::new(alloc);
-    params.push(CVar {
-        ty: CTy::Obj,
-        name: local_name_text(alloc, 0)?,
-    })?;
-    Ok(params)
+    for _param in params_of(top) {
+        params.push(CTy::Obj)?;
+    }
+    let name = function_name_text(alloc, m.name.as_bytes(), name_of(top).as_bytes())?;
+    Ok(CItem::Declared(CTy::Obj, name, params))
 }
 
-fn function(
-    alloc: Global,
-    module_name: &Text,
-    name: &Text,
-    node: &Node,
-) -> Result<CFun, OutOfMemory>
-    requires of_module { 0 < length module_name.now }
-    requires of_function { 0 < length name.now }
-    requires body_is { IsBody (tree node.now) }
-    ensures { IfOk result (λ f. IsFunctionOf module_name.now name.now (tree node.now) (fun_of f)) }
+fn declarations(alloc: Global, m: &Module) -> Result<List<CItem>, OutOfMemory>
+    ensures { IfOk result (λ items. items_of items ≡ declarations_of (module_tree m.now)) }
 {
-    let name = function_name_text(alloc, module_name.as_bytes(), name.as_bytes())?;
-    let params = parameter(alloc)?;
-    let mut e = Emitter::new(alloc, 1);
-    body(&mut e, node)?;
+    let mut items = List::new(alloc);
+    for top in m.tops.as_slice() {
+        items.push(declaration(alloc, m, top)?)?;
+    }
+    Ok(items)
+}
+
+fn definition(alloc: Global, m: &Module, top: &Top) -> Result<CFun, OutOfMemory>
+    requires { IsFunction (module_tree m.now).functions (function_tree top.now) }
+    ensures { IfOk result (λ f. IsFunctionOf (module_tree m.now) (function_tree top.now) (fun_of f)) }
+{
+    let ctx = Context {
+        module_name: &m.name,
+        functions: m.tops.as_slice(),
+        params: Params::new(alloc, params_of(top))?,
+    };
+    let mut e = Emitter::new(alloc, ctx.params.count());
+    body(&ctx, &mut e, body_of(top))?;
     let Emitter { stmts, locals, .. } = e;
     Ok(CFun {
         result: CTy::Obj,
-        name,
-        params,
+        name: function_name_text(alloc, m.name.as_bytes(), name_of(top).as_bytes())?,
+        params: ctx.params.variables(alloc)?,
         locals,
         body: CBody::Looped(label_name_text(alloc, 0)?, stmts),
     })
 }
 
-fn definition(alloc: Global, module_name: &Text, top: &Top) -> Result<CFun, OutOfMemory>
-    requires of_module { 0 < length module_name.now }
-    requires of_function { 0 < length (function_tree top.now).name }
-    requires body_is { IsBody (function_tree top.now).body }
-    ensures { IfOk result (λ f. IsFunctionOf module_name.now (function_tree top.now).name (function_tree top.now).body (fun_of f)) }
+fn define_all(alloc: Global, m: &Module, items: &mut List<CItem>) -> Result<(), OutOfMemory>
+    requires { AreFunctions (module_tree m.now).functions (module_tree m.now).functions }
+    ensures { OnOk result (AddsFunctions (module_tree m.now) (module_tree m.now).functions (items_of items.old) (items_of items.new)) }
 {
-    match top {
-        Top::Function(name, lambda) => function(alloc, module_name, name, &lambda.body),
+    for top in m.tops.as_slice() {
+        let f = definition(alloc, m, top)?;
+        items.push(CItem::Defined(f))?;
     }
+    Ok(())
 }
 
 /// A unit that is a translation of the module.
@@ -67,8 +71,7 @@ pub fn generate_unit(alloc: Global, m: &Module) -> Result<CUnit, OutOfMemory>
     requires { IsWellFormed (module_tree m.now) }
     ensures { IfOk result (λ u. Translated (module_tree m.now) (items_of u.items)) }
 {
-    let f = definition(alloc, &m.name, &m.tops.as_slice()[0])?;
-    let mut items = List::new(alloc);
-    items.push(CItem::Defined(f))?;
+    let mut items = declarations(alloc, m)?;
+    define_all(alloc, m, &mut items)?;
     Ok(CUnit { items })
 }

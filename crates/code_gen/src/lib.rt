@@ -1,6 +1,7 @@
 //! Generates the C unit of a module: a translation of it.
 #![tactic(auto)]
 
+mod context;
 mod emitter;
 mod generate;
 mod nodes;

@@ -2,10 +2,10 @@
 ghost use Rattle.std.specs.Prelude.{◌≡◌, ◌<◌, ◌∷◌, [], length, map, IfOk, OnOk};
 ghost use Rattle.c_tree.specs.Names.{local_name};
 ghost use Rattle.prim_table.specs.Table.{params_of};
-ghost use Rattle.core_tree.specs.Tree.{tree, trees, Sequence};
-ghost use Rattle.core_tree.specs.WellFormed.{IsExpression, AreExpressions, AsMany, IsBody};
+ghost use Rattle.core_tree.specs.Tree.{tree, trees, Sequence, function_of};
+ghost use Rattle.core_tree.specs.WellFormed.{AsMany, Defined};
+ghost use Rattle.code_gen.specs.Settings.{setting, IsNode, AreNodes, IsBodyIn};
 ghost use Rattle.code_gen.specs.Emission.{
-  Emits,
   AreBelow,
   held_names,
   IsValue,
@@ -13,70 +13,131 @@ ghost use Rattle.code_gen.specs.Emission.{
   AreFitted,
   IsFitted,
   IsReady,
+  IsPrimitiveCall,
+  IsOwnCall,
   IsUnused,
   IsReturned,
   GivesBoxed,
   IsBodyOf,
 };
 
+use crate::context::{Context, name_of, params_of};
 use crate::emitter::{Emitter, Held};
-use crate::parts::{coercion, constant, local_args, made_from, param_types, rep, result_type};
-use c_tree::{CCall, CExpr, Callee, Op};
-use core_tree::Node;
+use crate::parts::{
+    coercion, constant, local_args, local_expr, made_from, object_types, param_types, raise_count,
+    rep, result_type,
+};
+use c_tree::{CArg, CCall, CExpr, Callee, Op, function_name_text};
+use core_tree::{GlobalRef, Node};
 use plan_rules::Rep;
 use prim_table::{Primitive, Ty};
 use scheme_data::{List, OutOfMemory};
 
 // The node's value in a new local.
 #[cycle(values)]
-fn value(e: &mut Emitter, node: &Node, wanted: Rep) -> Result<Held, OutOfMemory>
-    requires { IsExpression (tree node.now) }
-    ensures { IfOk result (λ held. IsValue e.old e.new (tree node.now) wanted held) }
+fn value(ctx: &Context, e: &mut Emitter, node: &Node, wanted: Rep) -> Result<Held, OutOfMemory>
+    requires { IsNode (setting ctx.now) (tree node.now) }
+    ensures { IfOk result (λ held. IsValue (setting ctx.now) e.old e.new (tree node.now) wanted held) }
 {
     match node {
         Node::Constant(c) => {
-            let local = e.local(wanted)?;
             let number = constant(e.alloc, wanted, *c)?;
-            e.assign(local, number)?;
-            Ok(Held { local, rep: wanted })
+            e.store(wanted, number)
         }
+        Node::Variable(x) => {
+            let word = local_expr(e.alloc, ctx.params.local_of(*x))?;
+            e.store(Rep::Obj, word)
+        }
+        Node::Call(g, nodes) => match own_call(ctx, e, *g, nodes.as_slice())? {
+            Some(call) => e.store(Rep::Obj, CExpr::Call(call)),
+            None => e.unset(Rep::Obj),
+        },
         Node::Primitive(p, nodes) => {
-            let call = applied(e, *p, nodes.as_slice())?;
-            let rep = rep(result_type(*p));
-            let local = e.local(rep)?;
-            e.assign(local, CExpr::Call(call))?;
-            Ok(Held { local, rep })
+            let call = primitive_call(ctx, e, *p, nodes.as_slice())?;
+            e.store(rep(result_type(*p)), CExpr::Call(call))
         }
         Node::Sequence(_) => unreachable!(),
     }
 }
 
-// The call of a primitive, whose arguments were evaluated from left to right and then made to fit.
 #[cycle(values)]
-fn applied(e: &mut Emitter, p: Primitive, nodes: &[Node]) -> Result<CCall, OutOfMemory>
+fn primitive_call(
+    ctx: &Context,
+    e: &mut Emitter,
+    p: Primitive,
+    nodes: &[Node],
+) -> Result<CCall, OutOfMemory>
     requires as_many { AsMany (params_of p) (trees (map tree nodes.now)) }
-    requires expressions { AreExpressions (trees (map tree nodes.now)) }
-    ensures { IfOk result (λ call. IsReady e.old e.new p (trees (map tree nodes.now)) call) }
+    requires expressions { AreNodes (setting ctx.now) (trees (map tree nodes.now)) }
+    ensures { IfOk result (λ call. IsPrimitiveCall (setting ctx.now) e.old e.new p (trees (map tree nodes.now)) call) }
 {
-    let types = param_types(p);
-    let held = arguments(e, types, nodes)?;
-    let made = fitted(e, types, held.as_slice())?;
-    let args = local_args(e.alloc, made.as_slice())?;
+    let args = ready(ctx, e, param_types(p), nodes)?;
     Ok(CCall {
         callee: Callee::Op(Op::Primitive(p)),
         args,
     })
 }
 
+// The call of a function of the module; none where the number of arguments is wrong, and an error is raised in its place.
 #[cycle(values)]
-fn arguments(e: &mut Emitter, types: &[Ty], nodes: &[Node]) -> Result<List<Held>, OutOfMemory>
+fn own_call(
+    ctx: &Context,
+    e: &mut Emitter,
+    g: GlobalRef,
+    nodes: &[Node],
+) -> Result<Option<CCall>, OutOfMemory>
+    requires defined { Defined (function_of (setting ctx.now).functions g) }
+    requires expressions { AreNodes (setting ctx.now) (trees (map tree nodes.now)) }
+    ensures { IfOk result (λ call. IsOwnCall (setting ctx.now) e.old e.new g (trees (map tree nodes.now)) call) }
+{
+    let f = ctx.function(g);
+    let want = params_of(f).len();
+    let types = object_types(e.alloc, nodes)?;
+    if nodes.len() != want {
+        arguments(ctx, e, types.as_slice(), nodes)?;
+        let raise = raise_count(e.alloc, want)?;
+        e.call(raise)?;
+        return Ok(None);
+    }
+    let args = ready(ctx, e, types.as_slice(), nodes)?;
+    let name = function_name_text(e.alloc, ctx.module_name.as_bytes(), name_of(f).as_bytes())?;
+    Ok(Some(CCall {
+        callee: Callee::Fun(name),
+        args,
+    }))
+}
+
+// The arguments of a call, which were evaluated from left to right and then made to fit.
+#[cycle(values)]
+fn ready(
+    ctx: &Context,
+    e: &mut Emitter,
+    types: &[Ty],
+    nodes: &[Node],
+) -> Result<List<CArg>, OutOfMemory>
     requires as_many { AsMany types.now (trees (map tree nodes.now)) }
-    requires expressions { AreExpressions (trees (map tree nodes.now)) }
-    ensures { IfOk result (λ held. AreArguments e.old e.new types.now (trees (map tree nodes.now)) held) }
+    requires expressions { AreNodes (setting ctx.now) (trees (map tree nodes.now)) }
+    ensures { IfOk result (λ args. IsReady (setting ctx.now) e.old e.new types.now (trees (map tree nodes.now)) args) }
+{
+    let held = arguments(ctx, e, types, nodes)?;
+    let made = fitted(e, types, held.as_slice())?;
+    local_args(e.alloc, made.as_slice())
+}
+
+#[cycle(values)]
+fn arguments(
+    ctx: &Context,
+    e: &mut Emitter,
+    types: &[Ty],
+    nodes: &[Node],
+) -> Result<List<Held>, OutOfMemory>
+    requires as_many { AsMany types.now (trees (map tree nodes.now)) }
+    requires expressions { AreNodes (setting ctx.now) (trees (map tree nodes.now)) }
+    ensures { IfOk result (λ held. AreArguments (setting ctx.now) e.old e.new types.now (trees (map tree nodes.now)) held) }
 {
     let mut held = List::new(e.alloc);
     for i in 0..nodes.len() {
-        let one = value(e, &nodes[i], rep(types[i]))?;
+        let one = value(ctx, e, &nodes[i], rep(types[i]))?;
         held.push(one)?;
     }
     Ok(held)
@@ -103,20 +164,24 @@ fn fit(e: &mut Emitter, ty: Ty, held: Held) -> Result<u32, OutOfMemory>
         return Ok(held.local);
     };
     let value = made_from(e.alloc, op, held.local)?;
-    let local = e.local(rep(ty))?;
-    e.assign(local, value)?;
-    Ok(local)
+    let made = e.store(rep(ty), value)?;
+    Ok(made.local)
 }
 
 // The node is evaluated, and nobody takes its value.
-fn unused(e: &mut Emitter, node: &Node) -> Result<(), OutOfMemory>
-    requires { IsExpression (tree node.now) }
-    ensures { OnOk result (IsUnused e.old e.new (tree node.now)) }
+fn unused(ctx: &Context, e: &mut Emitter, node: &Node) -> Result<(), OutOfMemory>
+    requires { IsNode (setting ctx.now) (tree node.now) }
+    ensures { OnOk result (IsUnused (setting ctx.now) e.old e.new (tree node.now)) }
 {
     match node {
         Node::Constant(_) => Ok(()),
+        Node::Variable(_) => Ok(()),
+        Node::Call(g, nodes) => match own_call(ctx, e, *g, nodes.as_slice())? {
+            Some(call) => e.call(call),
+            None => Ok(()),
+        },
         Node::Primitive(p, nodes) => {
-            let call = applied(e, *p, nodes.as_slice())?;
+            let call = primitive_call(ctx, e, *p, nodes.as_slice())?;
             e.call(call)
         }
         Node::Sequence(_) => unreachable!(),
@@ -126,24 +191,31 @@ fn unused(e: &mut Emitter, node: &Node) -> Result<(), OutOfMemory>
 fn returned_number(e: &mut Emitter, call: CCall) -> Result<(), OutOfMemory>
     ensures { OnOk result (GivesBoxed e.old e.new call) }
 {
-    let local = e.local(Rep::Long)?;
-    e.assign(local, CExpr::Call(call))?;
-    let word = made_from(e.alloc, Op::BoxLong, local)?;
+    let held = e.store(Rep::Long, CExpr::Call(call))?;
+    let word = made_from(e.alloc, Op::BoxLong, held.local)?;
     e.give(word)
 }
 
 // The function gives the node's value as a word.
-fn returned(e: &mut Emitter, node: &Node) -> Result<(), OutOfMemory>
-    requires { IsExpression (tree node.now) }
-    ensures { OnOk result (IsReturned e.old e.new (tree node.now)) }
+fn returned(ctx: &Context, e: &mut Emitter, node: &Node) -> Result<(), OutOfMemory>
+    requires { IsNode (setting ctx.now) (tree node.now) }
+    ensures { OnOk result (IsReturned (setting ctx.now) e.old e.new (tree node.now)) }
 {
     match node {
         Node::Constant(c) => {
             let word = constant(e.alloc, Rep::Obj, *c)?;
             e.give(word)
         }
+        Node::Variable(x) => {
+            let word = local_expr(e.alloc, ctx.params.local_of(*x))?;
+            e.give(word)
+        }
+        Node::Call(g, nodes) => match own_call(ctx, e, *g, nodes.as_slice())? {
+            Some(call) => e.give(CExpr::Call(call)),
+            None => Ok(()),
+        },
         Node::Primitive(p, nodes) => {
-            let call = applied(e, *p, nodes.as_slice())?;
+            let call = primitive_call(ctx, e, *p, nodes.as_slice())?;
             match result_type(*p) {
                 Ty::Obj => e.give(CExpr::Call(call)),
                 Ty::Long => returned_number(e, call),
@@ -154,26 +226,28 @@ fn returned(e: &mut Emitter, node: &Node) -> Result<(), OutOfMemory>
 }
 
 // The nodes in order, of which the last gives the function's value.
-fn sequence(e: &mut Emitter, nodes: &[Node]) -> Result<(), OutOfMemory>
+fn sequence(ctx: &Context, e: &mut Emitter, nodes: &[Node]) -> Result<(), OutOfMemory>
     requires some { 0 < length nodes.now }
-    requires expressions { AreExpressions (trees (map tree nodes.now)) }
-    ensures { OnOk result (IsBodyOf e.old e.new (Sequence (trees (map tree nodes.now)))) }
+    requires expressions { AreNodes (setting ctx.now) (trees (map tree nodes.now)) }
+    ensures { OnOk result (IsBodyOf (setting ctx.now) e.old e.new (Sequence (trees (map tree nodes.now)))) }
 {
     let last = nodes.len() - 1;
     for i in 0..last {
-        unused(e, &nodes[i])?;
+        unused(ctx, e, &nodes[i])?;
     }
-    returned(e, &nodes[last])
+    returned(ctx, e, &nodes[last])
 }
 
 /// The statements of a function's body.
-pub fn body(e: &mut Emitter, node: &Node) -> Result<(), OutOfMemory>
-    requires { IsBody (tree node.now) }
-    ensures { OnOk result (IsBodyOf e.old e.new (tree node.now)) }
+pub fn body(ctx: &Context, e: &mut Emitter, node: &Node) -> Result<(), OutOfMemory>
+    requires { IsBodyIn (setting ctx.now) (tree node.now) }
+    ensures { OnOk result (IsBodyOf (setting ctx.now) e.old e.new (tree node.now)) }
 {
     match node {
-        Node::Sequence(nodes) => sequence(e, nodes.as_slice()),
+        Node::Sequence(nodes) => sequence(ctx, e, nodes.as_slice()),
         Node::Constant(_) => unreachable!(),
+        Node::Variable(_) => unreachable!(),
+        Node::Call(_, _) => unreachable!(),
         Node::Primitive(_, _) => unreachable!(),
     }
 }

@@ -1,28 +1,57 @@
 // Small modules, and what is written for them.
-ghost use Rattle.std.specs.Prelude.{IfOk};
+ghost use Rattle.std.specs.Prelude.{◌≡◌, ◌<◌, ◌≤◌, ◌∷◌, [], length, map, codes, IfOk};
 ghost use Rattle.scheme_data.specs.Fixnum.{IsFixnum};
-ghost use Rattle.core_tree.specs.Tree.{tree, module_tree};
-ghost use Rattle.core_tree.specs.WellFormed.{IsExpression, IsWellFormed};
+ghost use Rattle.core_tree.specs.Tree.{tree, trees, function_tree, module_tree};
+ghost use Rattle.core_tree.specs.WellFormed.{IsWellFormed};
+ghost use Rattle.code_gen.specs.Settings.{Setting, IsNode, AreNodes, IsBodyIn};
 
 use crate::generate_unit;
 use c_tree::{CArg, CAtom, CBody, CCall, CExpr, CFun, CItem, CStmt, CTy, CUnit, Callee, op_name};
-use core_tree::{Const, Lambda, Module, Node, Top, VarId};
+use core_tree::{Const, GlobalRef, Lambda, Module, Node, Top, VarId};
 use prim_table::Primitive;
 use scheme_data::{List, OutOfMemory, Text, push_number};
 use sqlite_items::Items;
 use std::alloc::Global;
 
+// Nodes below have their place in a function whose only parameter is the variable 0, of a module with two functions.
+
 fn number(n: i64) -> Node
     requires { IsFixnum n }
-    ensures { IsExpression (tree result) }
+    ensures { (w : Setting) → 2 ≤ length w.functions → w.params ≡ record { 0 = 0 } ∷ [] → IsNode w (tree result) }
 {
     Node::Constant(Const::Int(n))
 }
 
+fn parameter() -> Node
+    ensures { (w : Setting) → 2 ≤ length w.functions → w.params ≡ record { 0 = 0 } ∷ [] → IsNode w (tree result) }
+{
+    Node::Variable(VarId(0))
+}
+
+fn one(alloc: Global, a: Node) -> Result<Items<Node>, OutOfMemory>
+    requires { (w : Setting) → 2 ≤ length w.functions → w.params ≡ record { 0 = 0 } ∷ [] → IsNode w (tree a) }
+    ensures { IfOk result (λ args. (w : Setting) → 2 ≤ length w.functions → w.params ≡ record { 0 = 0 } ∷ [] → AreNodes w (trees (map tree args))) }
+{
+    let mut args = Items::new(alloc);
+    args.push(a)?;
+    Ok(args)
+}
+
+fn two(alloc: Global, a: Node, b: Node) -> Result<Items<Node>, OutOfMemory>
+    requires first { (w : Setting) → 2 ≤ length w.functions → w.params ≡ record { 0 = 0 } ∷ [] → IsNode w (tree a) }
+    requires second { (w : Setting) → 2 ≤ length w.functions → w.params ≡ record { 0 = 0 } ∷ [] → IsNode w (tree b) }
+    ensures { IfOk result (λ args. (w : Setting) → 2 ≤ length w.functions → w.params ≡ record { 0 = 0 } ∷ [] → AreNodes w (trees (map tree args))) }
+{
+    let mut args = Items::new(alloc);
+    args.push(a)?;
+    args.push(b)?;
+    Ok(args)
+}
+
 fn add(alloc: Global, a: Node, b: Node) -> Result<Node, OutOfMemory>
-    requires first { IsExpression (tree a) }
-    requires second { IsExpression (tree b) }
-    ensures { IfOk result (λ n. IsExpression (tree n)) }
+    requires first { (w : Setting) → 2 ≤ length w.functions → w.params ≡ record { 0 = 0 } ∷ [] → IsNode w (tree a) }
+    requires second { (w : Setting) → 2 ≤ length w.functions → w.params ≡ record { 0 = 0 } ∷ [] → IsNode w (tree b) }
+    ensures { IfOk result (λ n. (w : Setting) → 2 ≤ length w.functions → w.params ≡ record { 0 = 0 } ∷ [] → IsNode w (tree n)) }
 {
     let mut args = Items::new(alloc);
     args.push(a)?;
@@ -31,8 +60,8 @@ fn add(alloc: Global, a: Node, b: Node) -> Result<Node, OutOfMemory>
 }
 
 fn display(alloc: Global, a: Node) -> Result<Node, OutOfMemory>
-    requires { IsExpression (tree a) }
-    ensures { IfOk result (λ n. IsExpression (tree n)) }
+    requires { (w : Setting) → 2 ≤ length w.functions → w.params ≡ record { 0 = 0 } ∷ [] → IsNode w (tree a) }
+    ensures { IfOk result (λ n. (w : Setting) → 2 ≤ length w.functions → w.params ≡ record { 0 = 0 } ∷ [] → IsNode w (tree n)) }
 {
     let mut args = Items::new(alloc);
     args.push(a)?;
@@ -40,16 +69,26 @@ fn display(alloc: Global, a: Node) -> Result<Node, OutOfMemory>
 }
 
 fn newline(alloc: Global) -> Node
-    ensures { IsExpression (tree result) }
+    ensures { (w : Setting) → 2 ≤ length w.functions → w.params ≡ record { 0 = 0 } ∷ [] → IsNode w (tree result) }
 {
     Node::Primitive(Primitive::Newline, Items::new(alloc))
 }
 
-// A module `hello` whose function `go` evaluates two expressions.
-fn module(alloc: Global, first: Node, last: Node) -> Result<Module, OutOfMemory>
-    requires first_is { IsExpression (tree first) }
-    requires last_is { IsExpression (tree last) }
-    ensures { IfOk result (λ m. IsWellFormed (module_tree m)) }
+fn call(f: u32, args: Items<Node>) -> Node
+    requires function { f < 2 }
+    requires arguments { (w : Setting) → 2 ≤ length w.functions → w.params ≡ record { 0 = 0 } ∷ [] → AreNodes w (trees (map tree args)) }
+    ensures { (w : Setting) → 2 ≤ length w.functions → w.params ≡ record { 0 = 0 } ∷ [] → IsNode w (tree result) }
+{
+    Node::Call(GlobalRef::Own(f), args)
+}
+
+// A function `go` that evaluates two expressions.
+fn go(alloc: Global, first: Node, last: Node) -> Result<Top, OutOfMemory>
+    requires first_is { (w : Setting) → 2 ≤ length w.functions → w.params ≡ record { 0 = 0 } ∷ [] → IsNode w (tree first) }
+    requires last_is { (w : Setting) → 2 ≤ length w.functions → w.params ≡ record { 0 = 0 } ∷ [] → IsNode w (tree last) }
+    ensures name { IfOk result (λ t. (function_tree t).name ≡ codes "go") }
+    ensures params { IfOk result (λ t. (function_tree t).params ≡ record { 0 = 0 } ∷ []) }
+    ensures body { IfOk result (λ t. (w : Setting) → 2 ≤ length w.functions → w.params ≡ record { 0 = 0 } ∷ [] → IsBodyIn w (function_tree t).body) }
 {
     let mut params = List::new(alloc);
     params.push(VarId(0))?;
@@ -57,8 +96,35 @@ fn module(alloc: Global, first: Node, last: Node) -> Result<Module, OutOfMemory>
     parts.push(first)?;
     parts.push(last)?;
     let body = Node::Sequence(parts);
+    Ok(Top::Function(Text::from_bytes(alloc, b"go")?, Lambda { params, body }))
+}
+
+// A function `sum` of two parameters.
+fn sum(alloc: Global) -> Result<Top, OutOfMemory>
+    ensures name { IfOk result (λ t. (function_tree t).name ≡ codes "sum") }
+    ensures body { IfOk result (λ t. (w : Setting) → w.params ≡ (function_tree t).params → IsBodyIn w (function_tree t).body) }
+{
+    let mut params = List::new(alloc);
+    params.push(VarId(1))?;
+    params.push(VarId(2))?;
+    let mut args = Items::new(alloc);
+    args.push(Node::Variable(VarId(1)))?;
+    args.push(Node::Variable(VarId(2)))?;
+    let mut parts = Items::new(alloc);
+    parts.push(Node::Primitive(Primitive::Add, args))?;
+    let body = Node::Sequence(parts);
+    Ok(Top::Function(Text::from_bytes(alloc, b"sum")?, Lambda { params, body }))
+}
+
+// A module `hello` of these two functions.
+fn module(alloc: Global, first: Node, last: Node) -> Result<Module, OutOfMemory>
+    requires first_is { (w : Setting) → 2 ≤ length w.functions → w.params ≡ record { 0 = 0 } ∷ [] → IsNode w (tree first) }
+    requires last_is { (w : Setting) → 2 ≤ length w.functions → w.params ≡ record { 0 = 0 } ∷ [] → IsNode w (tree last) }
+    ensures { IfOk result (λ m. IsWellFormed (module_tree m)) }
+{
     let mut tops = List::new(alloc);
-    tops.push(Top::Function(Text::from_bytes(alloc, b"go")?, Lambda { params, body }))?;
+    tops.push(go(alloc, first, last)?)?;
+    tops.push(sum(alloc)?)?;
     Ok(Module {
         name: Text::from_bytes(alloc, b"hello")?,
         tops,
@@ -81,8 +147,13 @@ fn write_call(out: &mut Text, c: &CCall) -> Result<(), OutOfMemory> {
     }
     for a in c.args.as_slice() {
         out.push(b' ')?;
-        if let CArg::Atom(a) = a {
-            write_atom(out, a)?;
+        match a {
+            CArg::Atom(a) => write_atom(out, a)?,
+            CArg::Str(text) => {
+                out.push(b'"')?;
+                out.extend(text.as_bytes())?;
+                out.push(b'"')?;
+            }
         }
     }
     Ok(())
@@ -120,20 +191,6 @@ fn write_locals(out: &mut Text, f: &CFun) -> Result<(), OutOfMemory> {
     Ok(())
 }
 
-// The name, the locals, the label and the statements of each function.
-fn outline(alloc: Global, u: &CUnit) -> Result<Text, OutOfMemory> {
-    let mut out = Text::new(alloc);
-    for item in u.items.as_slice() {
-        if let CItem::Defined(f) = item {
-            out.extend(f.name.as_bytes())?;
-            out.push(b':')?;
-            write_locals(&mut out, f)?;
-            write_body(&mut out, &f.body)?;
-        }
-    }
-    Ok(out)
-}
-
 fn write_body(out: &mut Text, body: &CBody) -> Result<(), OutOfMemory> {
     let CBody::Looped(label, statements) = body else {
         return Ok(());
@@ -146,8 +203,46 @@ fn write_body(out: &mut Text, body: &CBody) -> Result<(), OutOfMemory> {
     Ok(())
 }
 
+// The name, the number of parameters, the locals, the label and the statements of a definition, or the head of a declaration.
+fn write_item(out: &mut Text, item: &CItem) -> Result<(), OutOfMemory> {
+    match item {
+        CItem::Declared(_, name, params) => {
+            out.extend(name.as_bytes())?;
+            out.push(b'/')?;
+            push_number(out, params.as_slice().len() as i64)?;
+            out.push(b';')
+        }
+        CItem::Defined(f) => {
+            out.extend(f.name.as_bytes())?;
+            out.push(b':')?;
+            write_locals(out, f)?;
+            write_body(out, &f.body)
+        }
+    }
+}
+
+// The items of a unit from the first place to before the second.
+fn outline(alloc: Global, u: &CUnit, first: u64, end: u64) -> Result<Text, OutOfMemory> {
+    let mut out = Text::new(alloc);
+    for i in first..end {
+        if let Some(item) = u.items.get(i) {
+            write_item(&mut out, item)?;
+        }
+    }
+    Ok(out)
+}
+
+// What is written for `go`.
+fn written(alloc: Global, first: Node, last: Node) -> Result<Text, OutOfMemory>
+    requires first_is { (w : Setting) → 2 ≤ length w.functions → w.params ≡ record { 0 = 0 } ∷ [] → IsNode w (tree first) }
+    requires last_is { (w : Setting) → 2 ≤ length w.functions → w.params ≡ record { 0 = 0 } ∷ [] → IsNode w (tree last) }
+{
+    let unit = generate_unit(alloc, &module(alloc, first, last)?)?;
+    outline(alloc, &unit, 2, 3)
+}
+
 fn counts(u: &CUnit) -> (u64, u64) {
-    let Some(CItem::Defined(f)) = u.items.get(0) else {
+    let Some(CItem::Defined(f)) = u.items.get(2) else {
         return (0, 0);
     };
     let CBody::Looped(_, statements) = &f.body else {
@@ -157,13 +252,24 @@ fn counts(u: &CUnit) -> (u64, u64) {
 }
 
 #[test]
+fn all_functions_are_declared_before_they_are_defined(rt: HostRuntime) -> Result<(), OutOfMemory> {
+    let alloc = rt.alloc();
+    let unit = generate_unit(alloc, &module(alloc, number(1), number(-7))?)?;
+    let text = outline(alloc, &unit, 0, 9)?;
+    assert_eq!(rt;
+        text.as_bytes(),
+        b"f_hello__go/1;f_hello__sum/2;f_hello__go:L0:return bgl_box_long -7;f_hello__sum:obj x2;obj x3;long x4;long x5;long x6;L0:x2=x0;x3=x1;x4=bgl_unbox_long x2;x5=bgl_unbox_long x3;x6=bgl_p__2b x4 x5;return bgl_box_long x6;".as_slice()
+    );
+    Ok(())
+}
+
+#[test]
 fn a_sum_is_boxed_and_displayed_and_the_last_value_returned(
     rt: HostRuntime,
 ) -> Result<(), OutOfMemory> {
     let alloc = rt.alloc();
     let shown = display(alloc, add(alloc, number(40), number(2))?)?;
-    let unit = generate_unit(alloc, &module(alloc, shown, newline(alloc))?)?;
-    let text = outline(alloc, &unit)?;
+    let text = written(alloc, shown, newline(alloc))?;
     assert_eq!(rt;
         text.as_bytes(),
         b"f_hello__go:long x1;long x2;long x3;obj x4;L0:x1=40;x2=2;x3=bgl_p__2b x1 x2;x4=bgl_box_long x3;bgl_p_display x4;return bgl_p_newline;".as_slice()
@@ -172,25 +278,10 @@ fn a_sum_is_boxed_and_displayed_and_the_last_value_returned(
 }
 
 #[test]
-fn an_unused_constant_gives_no_statement_and_the_last_is_returned(
-    rt: HostRuntime,
-) -> Result<(), OutOfMemory> {
-    let alloc = rt.alloc();
-    let unit = generate_unit(alloc, &module(alloc, number(1), number(-7))?)?;
-    let text = outline(alloc, &unit)?;
-    assert_eq!(rt;
-        text.as_bytes(),
-        b"f_hello__go:L0:return bgl_box_long -7;".as_slice()
-    );
-    Ok(())
-}
-
-#[test]
 fn a_word_is_unboxed_for_a_sum_and_the_sum_boxed(rt: HostRuntime) -> Result<(), OutOfMemory> {
     let alloc = rt.alloc();
     let sum = add(alloc, display(alloc, number(1))?, number(2))?;
-    let unit = generate_unit(alloc, &module(alloc, newline(alloc), sum)?)?;
-    let text = outline(alloc, &unit)?;
+    let text = written(alloc, newline(alloc), sum)?;
     assert_eq!(rt;
         text.as_bytes(),
         b"f_hello__go:obj x1;obj x2;long x3;long x4;long x5;L0:bgl_p_newline;x1=bgl_box_long 1;x2=bgl_p_display x1;x3=2;x4=bgl_unbox_long x2;x5=bgl_p__2b x4 x3;return bgl_box_long x5;".as_slice()
@@ -198,8 +289,50 @@ fn a_word_is_unboxed_for_a_sum_and_the_sum_boxed(rt: HostRuntime) -> Result<(), 
     Ok(())
 }
 
+#[test]
+fn a_call_takes_arguments_from_the_left_and_a_number_is_boxed(
+    rt: HostRuntime,
+) -> Result<(), OutOfMemory> {
+    let alloc = rt.alloc();
+    let args = two(alloc, add(alloc, number(1), number(2))?, parameter())?;
+    let text = written(alloc, parameter(), call(1, args))?;
+    assert_eq!(rt;
+        text.as_bytes(),
+        b"f_hello__go:long x1;long x2;long x3;obj x4;obj x5;L0:x1=1;x2=2;x3=bgl_p__2b x1 x2;x4=x0;x5=bgl_box_long x3;return f_hello__sum x5 x4;".as_slice()
+    );
+    Ok(())
+}
+
+#[test]
+fn a_function_calls_itself_and_its_parameter_is_returned(
+    rt: HostRuntime,
+) -> Result<(), OutOfMemory> {
+    let alloc = rt.alloc();
+    let text = written(alloc, call(0, one(alloc, parameter())?), parameter())?;
+    assert_eq!(rt;
+        text.as_bytes(),
+        b"f_hello__go:obj x1;L0:x1=x0;f_hello__go x1;return x0;".as_slice()
+    );
+    Ok(())
+}
+
+#[test]
+fn a_wrong_number_of_arguments_is_an_error_after_they_are_evaluated(
+    rt: HostRuntime,
+) -> Result<(), OutOfMemory> {
+    let alloc = rt.alloc();
+    let inner = call(1, one(alloc, newline(alloc))?);
+    let last = call(0, two(alloc, parameter(), inner)?);
+    let text = written(alloc, number(1), last)?;
+    assert_eq!(rt;
+        text.as_bytes(),
+        b"f_hello__go:obj x1;obj x2;obj x3;L0:x1=x0;x2=bgl_p_newline;bgl_raise 2 \"2\";bgl_raise 2 \"1\";".as_slice()
+    );
+    Ok(())
+}
+
 fn nested(alloc: Global, depth: u32) -> Result<Node, OutOfMemory>
-    ensures { IfOk result (λ n. IsExpression (tree n)) }
+    ensures { IfOk result (λ n. (w : Setting) → 2 ≤ length w.functions → w.params ≡ record { 0 = 0 } ∷ [] → IsNode w (tree n)) }
 {
     let mut sum = number(0);
     for _ in 0..depth {

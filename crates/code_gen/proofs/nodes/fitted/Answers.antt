@@ -1,4 +1,4 @@
-use Rattle.std.proofs.Common.{sym, ◌∙◌, subst, arith}
+use Rattle.std.proofs.Common.{sym, subst}
 use Rattle.code_gen.proofs.Counts.{below_at, below_more}
 use Rattle.code_gen.proofs.Fitting.{Fitting, fitting_none, fitting_one, fitting_all}
 use Rattle.code_gen.specs.Emission.{held_names}

@@ -4,5 +4,5 @@ use Rattle.code_gen.proofs.nodes.returned_number.Goals as goal
 
 pub returns : goal.returns
 returns c = on_ok_weaker c.give.result
-    (λ puts. gives_boxed c.args.e.now c.local.new.self c.assign.new.self c.give.new.self c.args.call c.in_ok-local.local c.in_ok-word.word c.in_ok-local.ensures c.in_ok-assign.ensures c.in_ok-word.ensures puts)
+    (λ puts. gives_boxed c.args.e.now c.store.new.self c.give.new.self c.args.call c.in_ok-held.held c.in_ok-word.word c.in_ok-held.ensures c.in_ok-word.ensures puts)
     c.give.ensures

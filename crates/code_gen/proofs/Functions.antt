@@ -1,0 +1,211 @@
+-- A function that was written: its variables, and what its statements rest on.
+use Rattle.std.proofs.Common.{◌≡◌, ℕ, suc, ◌+◌, ◌≤◌, ◌^◌, Bool, true, false, List, [], ◌∷◌, ◌++◌, length, map, Option, Some, refl, sym, ap, ◌∙◌, subst, arith}
+use Rattle.std.specs.Prelude.{if◌then◌else◌, IsTrue}
+use Rattle.std.proofs.lemmas.Bool.{and_from}
+use Rattle.core_tree.specs.declared.tree.VarId.{VarId}
+use Rattle.core_tree.specs.Tree.{Tree, Constant, Variable, Sequence, Call, Primitive, none, more, FunctionTree, ModuleTree}
+use Rattle.core_tree.specs.WellFormed.{same_variable, IsFunction, IsWellFormed}
+use Rattle.c_tree.specs.declared.tree.CTy.TheVariants as c_ty
+use Rattle.c_tree.specs.declared.tree.CVar.{CVar}
+use Rattle.c_tree.specs.Code.{Code, done, loop, onto, Fun, defined}
+use Rattle.c_tree.specs.Names.{local_name, label_name, function_name, is_label_name, is_function_name, is_main}
+use Rattle.c_tree.specs.Spelling.{NamedVars, NamedBody, NamedCode, NamedItem}
+use Rattle.c_tree.proofs.NameShapes.{function_name_not_main, is_label_name-label_name}
+use Rattle.c_meaning.specs.Checked.{Signature, signature_of, variables_of, are_distinct, code_fits, is_looped, is_main_function, function_fits}
+use Rattle.plan_rules.specs.declared.rep.Rep.{Rep}
+use Rattle.plan_rules.specs.declared.rep.Rep.TheVariants.{Obj}
+use Rattle.plan_rules.specs.Representation.{Slot, PlainAt, slot_of, c_type_of}
+use Rattle.plan_rules.specs.Translation.{Name, IsLocal, back, scope_of, Tr, TrFunction}
+use Rattle.code_gen.specs.declared.emitter.Emitter.{Emitter}
+use Rattle.code_gen.specs.Scopes.{words, scope_from}
+use Rattle.code_gen.specs.Settings.{Setting, IsBodyIn, TrIn}
+use Rattle.code_gen.specs.Emission.{AreBelow, AreCounted, AreLocals, IsFresh, IsBodyOf, setting_of, word_names, IsFunctionOf}
+use Rattle.code_gen.proofs.Counts.{below_none, below_one}
+use Rattle.code_gen.proofs.Variables.{counted_distinct, counted_locals, counted_named, local_named}
+use Rattle.code_gen.proofs.Soundness.{signature, Grounds, Fine, fine_done, fine_last}
+use Rattle.code_gen.proofs.Declared.{Within, called, is_function, named_function, signed}
+
+-- Parameters --------------------------------------------------------------------------------
+
+words_below : (n k : ℕ) (params : List VarId) → n + length params ≤ k → AreBelow k (map (λ v. v.name) (words n params))
+words_below n k [] within = below_none k
+words_below n k (x ∷ xs) within = below_one k n (map (λ v. v.name) (words (suc n) xs)) (omega arith) (words_below (suc n) k xs (omega arith))
+
+words_counted : (n k : ℕ) (params : List VarId) (vs : List CVar) (last : ℕ) → n + length params ≡ k → AreCounted vs k last → AreCounted (words n params ++ vs) n last
+unfolding AreCounted
+words_counted n k [] vs last e h = let same : k ≡ n = omega arith in subst (λ i. AreCounted vs i last) same h
+words_counted n k (x ∷ xs) vs last e h = (refl, words_counted (suc n) k xs vs last (omega arith) h)
+
+words_typed : (n : ℕ) (params : List VarId) → map (λ v. v.ty) (words n params) ≡ map (λ _. c_ty.Obj) params
+words_typed n [] = refl
+words_typed n (x ∷ xs) = ap (λ ts. c_ty.Obj ∷ ts) (words_typed (suc n) xs)
+
+scoped_at : (b : Bool) (vars : List CVar) (n : ℕ) (other : Option Slot) (r : Rep) (y : Name) → IsLocal vars (local_name n) c_ty.Obj → (other ≡ Some (PlainAt r y) → IsLocal vars y (c_type_of r))
+    → (if b then Some (PlainAt Obj (local_name n)) else other) ≡ Some (PlainAt r y) → IsLocal vars y (c_type_of r)
+scoped_at true vars n other r y here others e =
+    let name : local_name n ≡ y = cc in
+    let rep : Obj ≡ r = cc in
+    subst (λ k. IsLocal vars y (c_type_of k)) rep (subst (λ z. IsLocal vars z c_ty.Obj) name here)
+scoped_at false vars n other r y here others e = others e
+
+-- a variable in scope is a local
+scoped : (vars : List CVar) (n : ℕ) (params : List VarId) → AreLocals vars (words n params) → (x : VarId) (r : Rep) (y : Name) → slot_of x (scope_from n params) ≡ Some (PlainAt r y) → IsLocal vars y (c_type_of r)
+unfolding AreLocals
+scoped vars n [] l x r y e = absurd (cc)
+scoped vars n (p ∷ ps) l x r y e = scoped_at (same_variable x p) vars n (slot_of x (scope_from (suc n) ps)) r y l.0 (scoped vars (suc n) ps l.1 x r y) e
+
+-- The function ------------------------------------------------------------------------------
+
+none_counted : (s : Emitter) (first : ℕ) → s.locals ≡ [] → s.next ≡ first → AreCounted s.locals first s.next
+unfolding AreCounted
+none_counted s first e f =
+    let A : List CVar → ℕ → Type 0 = λ vs n. AreCounted vs first n in
+    subst (λ vs. A vs s.next) (sym e) (subst (A []) (sym f) refl)
+
+pub function_written : (m : ModuleTree) (f : FunctionTree) (s e : Emitter) (g : Fun) → IsFresh s (length f.params) → length f.params ≤ 2 ^ 32 → IsBodyOf (setting_of m f) s e f.body
+    → g.name ≡ function_name m.name f.name → g.result ≡ c_ty.Obj → g.params ≡ words 0 f.params → g.locals ≡ e.locals → g.code ≡ loop (label_name 0) (onto e.stmts done) done → IsFunctionOf m f g
+function_written m f s e g fresh few all name_is result params locals code_is =
+    let first : s.next ≡ length f.params = fresh.next_is in
+    record {
+      name_is = name_is;
+      result = result;
+      params = params;
+      last = e.next;
+      small = all.emits.small (omega arith);
+      counted = subst (λ vs. AreCounted vs (length f.params) e.next) (sym locals) (all.emits.counted (length f.params) (none_counted s (length f.params) fresh.locals first));
+      code = onto e.stmts done;
+      looped = code_is;
+      translated = λ l.
+          let vars = variables_of g in
+          let w = all.emits.code vars (subst (AreLocals vars) locals l) done in
+          let below : AreBelow s.next (word_names f.params) = words_below 0 s.next f.params (omega arith) in
+          subst (λ c. TrIn (setting_of m f) vars f.body Obj (word_names f.params) back c done) (sym (w.is ∙ ap (λ ss. onto ss w.code) fresh.stmts)) (w.meant (word_names f.params) below);
+    }
+
+pub setting_same : (m : ModuleTree) (f : FunctionTree) (functions : List FunctionTree) (params : List VarId) → functions ≡ m.functions → params ≡ f.params
+    → ◌≡◌ {A = Setting} (record { module_name = m.name; functions = functions; params = params }) (setting_of m f)
+setting_same m f functions params e g = cc
+
+-- Its variables -----------------------------------------------------------------------------
+
+record HasVariables (f : FunctionTree) (g : Fun) : Type 0 where
+  distinct : are_distinct (map (λ v. v.name) (variables_of g)) ≡ true
+  all_named : NamedVars (variables_of g)
+  params_named : NamedVars g.params
+  locals_named : NamedVars g.locals
+  words_local : AreLocals (variables_of g) (words 0 f.params)
+  locals : AreLocals (variables_of g) g.locals
+
+first_named : (xs ys : List CVar) → NamedVars (xs ++ ys) → NamedVars xs
+first_named [] ys h = tt
+first_named (x ∷ xs) ys h = (h.0, first_named xs ys h.1)
+
+others_named : (xs ys : List CVar) → NamedVars (xs ++ ys) → NamedVars ys
+others_named [] ys h = h
+others_named (x ∷ xs) ys h = others_named xs ys h.1
+
+first_locals : (vars xs ys : List CVar) → AreLocals vars (xs ++ ys) → AreLocals vars xs
+unfolding AreLocals
+first_locals vars [] ys h = tt
+first_locals vars (x ∷ xs) ys h = (h.0, first_locals vars xs ys h.1)
+
+others_locals : (vars xs ys : List CVar) → AreLocals vars (xs ++ ys) → AreLocals vars ys
+unfolding AreLocals
+others_locals vars [] ys h = h
+others_locals vars (x ∷ xs) ys h = others_locals vars xs ys h.1
+
+has_variables : (m : ModuleTree) (f : FunctionTree) (g : Fun) → IsFunctionOf m f g → HasVariables f g
+has_variables m f g is =
+    let ws = words 0 f.params in
+    let all = words_counted 0 (length f.params) f.params g.locals is.last (omega arith) is.counted in
+    let are : ws ++ g.locals ≡ variables_of g = ap (λ ps. ps ++ g.locals) (sym is.params) in
+    let named = counted_named (ws ++ g.locals) 0 is.last all is.small in
+    let local = counted_locals (ws ++ g.locals) 0 is.last all is.small in
+    record {
+      distinct = subst (λ vs. are_distinct (map (λ v. v.name) vs) ≡ true) are (counted_distinct (ws ++ g.locals) 0 is.last all is.small);
+      all_named = subst NamedVars are named;
+      params_named = subst NamedVars (sym is.params) (first_named ws g.locals named);
+      locals_named = others_named ws g.locals named;
+      words_local = subst (λ vs. AreLocals vs ws) are (first_locals (ws ++ g.locals) ws g.locals local);
+      locals = subst (λ vs. AreLocals vs g.locals) are (others_locals (ws ++ g.locals) ws g.locals local);
+    }
+
+-- Its statements ----------------------------------------------------------------------------
+
+whole_body : (w : Setting) (vars : List CVar) (b : Tree) (live : List Name) (code : Code) → IsBodyIn w b → TrIn w vars b Obj live back code done → TrIn w vars (Sequence (more b none)) Obj live back code done
+unfolding Tr
+whole_body w vars (Constant c) live code h t = absurd h
+whole_body w vars (Variable x) live code h t = absurd h
+whole_body w vars (Sequence ts) live code h t = t
+whole_body w vars (Call g ns) live code h t = absurd h
+whole_body w vars (Primitive p ns) live code h t = absurd h
+
+fine_body : (w : Setting) (sigs : List Signature) (vars : List CVar) (grounds : Grounds w sigs vars) (b : Tree) (live : List Name) (code : Code) → IsBodyIn w b → TrIn w vars b Obj live back code done
+    → Fine w sigs vars grounds code
+unfolding Tr
+fine_body w sigs vars grounds (Constant c) live code h t = absurd h
+fine_body w sigs vars grounds (Variable x) live code h t = absurd h
+fine_body w sigs vars grounds (Sequence none) live code h t = absurd h
+fine_body w sigs vars grounds (Sequence (more n ns)) live code h t = fine_last w sigs vars grounds (more n ns) h live code done t (fine_done w sigs vars grounds)
+fine_body w sigs vars grounds (Call g ns) live code h t = absurd h
+fine_body w sigs vars grounds (Primitive p ns) live code h t = absurd h
+
+looped_fits : (sigs : List Signature) (g : Fun) (l : Name) (body : Code) → is_main g.name ≡ false → are_distinct (map (λ v. v.name) (variables_of g)) ≡ true → g.result ≡ c_ty.Obj → g.code ≡ loop l body done
+    → code_fits sigs (variables_of g) c_ty.Obj body ≡ true → function_fits sigs g ≡ true
+looped_fits sigs g l body not_main distinct result code_is fits =
+    let vars = variables_of g in
+    let loops : (if is_main g.name then is_main_function sigs g else is_looped sigs vars g.result g.code) ≡ true =
+    ap (λ b. if b then is_main_function sigs g else is_looped sigs vars g.result g.code) not_main
+    ∙ ap (λ r. is_looped sigs vars r g.code) result ∙ ap (is_looped sigs vars c_ty.Obj) code_is ∙ fits in
+    and_from (are_distinct (map (λ v. v.name) vars)) (if is_main g.name then is_main_function sigs g else is_looped sigs vars g.result g.code) distinct loops
+
+named_body : (l : Name) (body code : Code) → code ≡ loop l body done → IsTrue (is_label_name l) → NamedCode body → NamedBody code
+named_body l body code e label named = subst NamedBody (sym e) (label, named, refl)
+
+-- what a function of a unit is, where these are the signatures before it
+pub record Fits (m : ModuleTree) (sigs : List Signature) (f : FunctionTree) (g : Fun) : Type 0 where
+  pub fits : function_fits sigs g ≡ true
+  pub signature_is : signature_of (defined g) ≡ signature m.name f
+  pub named : NamedItem (defined g)
+  pub translated : TrFunction m.name m.functions f g
+
+signature_at : (m : Name) (f : FunctionTree) (g : Fun) → g.name ≡ function_name m f.name → g.result ≡ c_ty.Obj → map (λ v. v.ty) g.params ≡ map (λ _. c_ty.Obj) f.params
+    → signature_of (defined g) ≡ signature m f
+signature_at m f g name result params = cc
+
+pub function_fits_module : (m : ModuleTree) (w : IsWellFormed m) (hs : List FunctionTree) (f : FunctionTree) (g : Fun) → Within hs m.functions → Within m.functions hs → IsFunction m.functions f
+    → IsFunctionOf m f g → Fits m (map (signature m.name) hs) f g
+function_fits_module m w hs f g within covers formed is =
+    let has = has_variables m f g is in
+    let vars = variables_of g in
+    let s = setting_of m f in
+    let sigs = map (signature m.name) hs in
+    let grounds : Grounds s sigs vars = record {
+      locals_named = λ x t l. local_named vars x t has.all_named l;
+      scoped = scoped vars 0 f.params has.words_local;
+      signed = λ r h found. let here = called m.functions r h found in signed m.name m.functions w.distinct h hs here within (covers h here);
+      called_named = λ r h found. named_function m.name h.name w.name (is_function m.functions m.functions h w.functions (called m.functions r h found)).name;
+    } in
+    let t = is.translated has.locals in
+    let fine = fine_body s sigs vars grounds f.body (word_names f.params) is.code formed.body t in
+    let types : map (λ v. v.ty) g.params ≡ map (λ _. c_ty.Obj) f.params = ap (map (λ v. v.ty)) is.params ∙ words_typed 0 f.params in
+    record {
+      fits = looped_fits sigs g (label_name 0) is.code (ap is_main is.name_is ∙ function_name_not_main m.name f.name) has.distinct is.result is.looped fine.fits;
+      signature_is = signature_at m.name f g is.name_is is.result types;
+      named = (
+        subst (λ x. IsTrue (is_function_name x)) (sym is.name_is) (named_function m.name f.name w.name formed.name),
+        has.params_named,
+        has.locals_named,
+        named_body (label_name 0) is.code g.code is.looped (is_label_name-label_name 0 (omega arith)) fine.named,
+      );
+      translated = record {
+        name = is.name_is;
+        result = is.result;
+        params = types;
+        label = label_name 0;
+        body = is.code;
+        looped = is.looped;
+        translated = subst (λ ps. Tr m.name m.functions (scope_of f.params ps) vars (Sequence (more f.body none)) Obj (map (λ v. v.name) ps) back is.code done) (sym is.params)
+            (whole_body s vars f.body (word_names f.params) is.code formed.body t);
+      };
+    }
