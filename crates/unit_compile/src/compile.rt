@@ -1,22 +1,29 @@
 ghost use Rattle.std.specs.Prelude.{◌≡◌, IfOk};
+ghost use Rattle.scheme_data.specs.Data.{AreProper, plain_all};
+ghost use Rattle.scheme_read.specs.declared.error.ReadErr.{ReadErr};
+ghost use Rattle.scheme_read.specs.Answers.{IsFault};
 ghost use Rattle.core_tree.specs.Tree.{module_tree};
 ghost use Rattle.core_tree.specs.WellFormed.{IsWellFormed};
 ghost use Rattle.object_text.specs.Format.{object_tree, CanBeWritten};
-ghost use Rattle.unit_compile.specs.Compilation.{CompilesTo, IsObjectOf};
-ghost use Rattle.unit_compile.specs.Modules.{ReadsModule};
+ghost use Rattle.unit_compile.specs.Compilation.{CompilesTo, RefusesFor, IsObjectOf};
+ghost use Rattle.unit_compile.specs.Modules.{Makes};
 
 use code_gen::generate_unit;
 use core_tree::Module;
 use object_text::{Object, write_object};
 use resolver::resolve_module;
-use scheme_data::{OutOfMemory, Text, TextList};
+use scheme_data::{Datum, LimitKind, OutOfMemory, Place, Text, TextList};
 use scheme_read::{ReadErr, read_all};
 use std::alloc::Global;
 
 /// Why a source isn't compiled.
 #[derive(Clone, Copy, Debug, PartialEq, Eq)]
 pub enum UnitErr {
-    /// It isn't by the forms that are built, or comes with interfaces.
+    /// No data are spelled so: at the first token that no data could have there, or at the end of a source that isn't whole.
+    Syntax(Place),
+    /// It has more bytes, or data in each other, than may be.
+    Limit(LimitKind),
+    /// It is read, and isn't by the forms that are built, or comes with interfaces.
     NotBuilt,
     /// Memory was wanted and not given.
     Memory,
@@ -32,27 +39,41 @@ impl From<OutOfMemory> for UnitErr {
     }
 }
 
+impl From<ReadErr> for UnitErr {
+    ghost use Rattle.std.specs.Prelude.{◌≡◌};
+    ghost use Rattle.unit_compile.specs.Compilation.{refusal_for};
+
+    ghost from_gives = { λ fault e. e ≡ refusal_for fault };
+
+    fn from(fault: ReadErr) -> Self {
+        match fault {
+            ReadErr::Syntax(at) => UnitErr::Syntax(at),
+            ReadErr::Limit(kind, _) => UnitErr::Limit(kind),
+            ReadErr::Memory => UnitErr::Memory,
+        }
+    }
+}
+
 /// The text of the object of a source, compiled with these interface texts.
 pub fn compile_unit(alloc: Global, source: &[u8], ifaces: &TextList) -> Result<Text, UnitErr>
-    ensures { CompilesTo source.now ifaces.now result }
+    ensures value { CompilesTo source.now ifaces.now result }
+    // What is at fault is refused for that, unless memory runs out.
+    ensures refused { (fault : ReadErr) → IsFault source.now fault → RefusesFor fault result }
 {
+    let forms = read_all(alloc, source)?;
     if ifaces.len() != 0 {
         return Err(UnitErr::NotBuilt);
     }
-    let module = module_of(alloc, source)?;
+    let module = module_of(alloc, forms.as_slice())?;
     let object = object_of(alloc, &module)?;
     Ok(write_object(alloc, &object)?)
 }
 
-fn module_of(alloc: Global, source: &[u8]) -> Result<Module, UnitErr>
-    ensures { ReadsModule source.now result }
+fn module_of(alloc: Global, forms: &[Datum]) -> Result<Module, UnitErr>
+    requires { AreProper (plain_all forms.now) }
+    ensures { Makes forms.now result }
 {
-    let forms = match read_all(alloc, source) {
-        Ok(forms) => forms,
-        Err(ReadErr::NotBuilt) => return Err(UnitErr::NotBuilt),
-        Err(ReadErr::Memory) => return Err(UnitErr::Memory),
-    };
-    match resolve_module(alloc, forms.as_slice())? {
+    match resolve_module(alloc, forms)? {
         Some(module) => Ok(module),
         None => Err(UnitErr::NotBuilt),
     }
