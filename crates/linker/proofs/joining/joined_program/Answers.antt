@@ -1,8 +1,7 @@
-use Rattle.std.proofs.Common.{◌≡◌, ℕ, ◌<◌, List, length, IsTrue, sym, ◌∙◌, ap, subst, arith}
+use Rattle.std.proofs.Common.{◌≡◌, ℕ, ◌<◌, List, length, IsTrue, sym, subst}
 use Rattle.c_tree.specs.Code.{Item, items_of}
 use Rattle.c_tree.specs.Names.{is_function_name, function_name}
 use Rattle.c_tree.specs.Spelling.{NamedItems}
-use Rattle.plan_rules.specs.Joined.{joined}
 use Rattle.linker.proofs.Programs.{joined_is, joined_named, named_function}
 use Rattle.linker.proofs.joining.joined_program.Goals as goal
 

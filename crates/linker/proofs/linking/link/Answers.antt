@@ -1,4 +1,3 @@
-use Rattle.std.proofs.Common.{◌≡◌, ℕ, List, [], ◌∷◌}
 use Rattle.c_tree.specs.Code.{items_of}
 use Rattle.linker.proofs.Programs.{alone, none_alone, linked}
 use Rattle.linker.proofs.linking.link.Goals as goal
