@@ -1,12 +1,12 @@
 -- A list is cut in one way behind a front, and behind the longest run of elements that pass a test.
-use Rattle.std.proofs.Common.{◌≡◌, ◌≢◌, ℕ, ◌+◌, ◌≤◌, ◌<◌, List, [], ◌∷◌, ◌++◌, length, take, drop, Bool, true, false, cond, IsTrue, ◌&&◌, refl, ap, sym, ◌∙◌, arith, one-add, subst, take-append-drop, Option, None, MatchOption, Bor, nat_eq}
+use Rattle.std.proofs.Common.{◌≡◌, ℕ, ◌+◌, ◌≤◌, ◌<◌, List, [], ◌∷◌, ◌++◌, length, take, drop, Bool, true, false, cond, IsTrue, ◌&&◌, refl, ap, sym, ◌∙◌, arith, one-add, subst, take-append-drop, None, nat_eq}
 use Rattle.std.specs.List.{list_all, prefix_len}
 use Rattle.std.specs.Cmp.Lexicographic.{pointwise}
 use Rattle.std.proofs.lemmas.Bool.Decides.{Decides-eqb}
 use Rattle.std.proofs.lemmas.Slice.Eq.{strip_prefix_is}
 use Rattle.std.proofs.lemmas.List.{append_cancel_left}
 use Rattle.std.proofs.lemmas.List.Folds.{length-prefix_len}
-use Rattle.scheme_data.specs.Symbols.{is_symbol_byte, IsName}
+use Rattle.scheme_data.specs.Symbols.{is_symbol_byte}
 use Rattle.object_text.specs.Header.{IsNamed, NotNamed, Stops}
 
 both_true : (a b : Bool) → (a && b) ≡ true → (a ≡ true) × (b ≡ true)

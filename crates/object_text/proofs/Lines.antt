@@ -1,13 +1,13 @@
 -- An object's text has one module name, one main name and one unit.
-use Rattle.std.proofs.Common.{◌≡◌, ◌≢◌, ℕ, List, [], ◌∷◌, ◌++◌, refl, ap, sym, ◌∙◌, take, length, nat_eq, false, None}
+use Rattle.std.proofs.Common.{◌≡◌, ◌≢◌, ℕ, List, ◌++◌, refl, ap, ◌∙◌, take, length, nat_eq, false, None}
 use Rattle.std.specs.Cmp.Lexicographic.{pointwise}
 use Rattle.std.proofs.lemmas.Bool.Decides.{Decides-eqb}
 use Rattle.std.proofs.lemmas.List.{append_cancel_left}
 use Rattle.std.proofs.lemmas.Slice.Eq.{strip_prefix_is}
-use Rattle.scheme_data.specs.Symbols.{is_symbol_byte, IsName}
+use Rattle.scheme_data.specs.Symbols.{IsName}
 use Rattle.object_text.specs.Format.{object_lines, before_module, before_main, before_unit}
 use Rattle.object_text.specs.Header.{IsNamed, NotNamed}
-use Rattle.object_text.proofs.Cuts.{Same, named_once}
+use Rattle.object_text.proofs.Cuts.{named_once}
 
 module_named : (bytes m f u : List ℕ) → IsName m → bytes ≡ object_lines m f u → IsNamed bytes before_module m (before_main ++ (f ++ (before_unit ++ u)))
 module_named bytes m f u h e = record { are = e; is_name = h; stops = refl }
