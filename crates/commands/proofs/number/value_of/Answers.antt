@@ -1,4 +1,4 @@
-use Rattle.std.proofs.Common.{arith, ◌<◌, length}
+use Rattle.std.proofs.Common.{arith, ◌<◌}
 use Rattle.commands.proofs.Powers.{below_limit}
 use Rattle.commands.proofs.number.value_of.Goals as goal
 

@@ -1,4 +1,4 @@
-use Rattle.std.proofs.Common.{◌≡◌, ◌++◌, ◌∷◌, ◌+◌, ◌<◌, [], List, ℕ, drop, get_or, length, ap, sym, ◌∙◌, refl, add-one, drop-cons}
+use Rattle.std.proofs.Common.{◌≡◌, ◌++◌, ◌∷◌, ◌+◌, ◌<◌, List, ℕ, drop, get_or, length, ap, sym, ◌∙◌, add-one, drop-cons}
 use Rattle.commands.specs.Commands.{parts_of}
 use Rattle.commands.proofs.Joins.{onto, onto-nil, closed_part, longer_part}
 use Rattle.commands.proofs.words.parts.Goals as goal
