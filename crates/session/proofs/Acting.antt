@@ -1,5 +1,5 @@
 -- What each command does with what was read.
-use Rattle.std.proofs.Common.{◌≡◌, ℕ, ◌+◌, ◌<◌, List, [], ◌∷◌, ◌++◌, map, get_or, drop, take, ◌-◌, ◌≤◌, length, Option, Some, None, Result, Ok, Err, inl, inr, refl, ap, sym, ◌∙◌, arith, subst}
+use Rattle.std.proofs.Common.{◌≡◌, ℕ, ◌<◌, List, [], ◌∷◌, get_or, drop, take, ◌-◌, length, Option, Some, None, Result, Ok, Err, inl, inr, refl, ap, sym, ◌∙◌, arith, subst}
 use Rattle.std.proofs.lemmas.List.{append-nil, take_all}
 use Rattle.base_io.specs.Contents.{Bytes}
 use Rattle.base_io.specs.Observation.{Observation}
@@ -13,7 +13,7 @@ use Rattle.session.specs.declared.answer.Effect.TheVariants.{Nothing, Wrote, Ran
 use Rattle.session.specs.declared.answer.Refusal.TheVariants.{NotBuilt}
 use Rattle.session.specs.declared.answer.Halt.{Halt}
 use Rattle.session.specs.declared.answer.Halt.TheVariants.{NoFile, FileFault, WriteFault, Refused, Memory}
-use Rattle.session.specs.Works.{Kind, as_given, as_object, as_program, Held, Stands, AllStand, bytes_of, reads_of, Gives, Refuses, MayAdd, RunMeans, TextRuns, no_input, printed}
+use Rattle.session.specs.Works.{Kind, as_given, as_object, as_program, Held, Stands, AllStand, bytes_of, reads_of, Gives, Refuses, RunMeans, TextRuns, no_input, printed}
 use Rattle.session.specs.Done.{CompileDid, LinkDid, TextRan, CutRun, Performs, Added}
 
 -- the first that was read, and the others

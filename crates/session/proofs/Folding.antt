@@ -1,5 +1,5 @@
 -- The lines of a script, one after another.
-use Rattle.std.proofs.Common.{◌≡◌, ℕ, zero, suc, ◌+◌, ◌≤◌, ◌<◌, List, [], ◌∷◌, ◌++◌, map, take, drop, get_or, length, Option, Some, None, Result, Ok, Err, refl, ap, sym, ◌∙◌, arith, subst, unwrap_or, add-one}
+use Rattle.std.proofs.Common.{◌≡◌, ℕ, zero, suc, ◌+◌, ◌≤◌, ◌<◌, List, [], ◌∷◌, ◌++◌, map, take, drop, get_or, length, Option, Some, None, Ok, Err, refl, ap, sym, ◌∙◌, arith, subst, unwrap_or, add-one}
 use Rattle.std.proofs.lemmas.List.{append-nil, drop_all}
 use Rattle.std.specs.Ordering.{nat_cmp}
 use Rattle.std.specs.Cmp.Lexicographic.{slice_cmp}
@@ -16,7 +16,7 @@ use Rattle.session.specs.declared.answer.Halt.TheVariants.{NoFile, FileFault, Wr
 use Rattle.session.specs.declared.answer.Answer.{Answer}
 use Rattle.session.specs.declared.answer.Answer.TheVariants as answer
 use Rattle.session.specs.Works.{Kind, as_given, Stands}
-use Rattle.session.specs.Scripts.{State, start, after, Steps, Reaches, Stops, Same, Remains, Kept, Agrees, LineDid, Last, finished, bad_line, halted, no_memory, ScriptDid, answer_of}
+use Rattle.session.specs.Scripts.{State, start, after, Steps, Reaches, Kept, Agrees, LineDid, finished, bad_line, halted, no_memory, ScriptDid, answer_of}
 
 abbrev Lines : Type 0
 Lines = List (Option Command)

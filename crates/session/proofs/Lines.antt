@@ -1,9 +1,9 @@
 -- One line: its steps put together, once for all commands.
-use Rattle.std.proofs.Common.{◌≡◌, ℕ, ◌+◌, ◌<◌, Bool, true, false, cond, List, [], ◌∷◌, ◌++◌, map, length, Option, Some, None, Result, Ok, Err, inl, inr, refl, ap, sym, ◌∙◌, arith, subst, append_assoc, unwrap_or, Contains}
+use Rattle.std.proofs.Common.{◌≡◌, Bool, true, false, cond, List, [], ◌∷◌, ◌++◌, map, Option, Some, None, Result, Ok, Err, inl, inr, refl, ap, sym, ◌∙◌, arith, subst, append_assoc, unwrap_or, Contains}
 use Rattle.std.proofs.lemmas.List.{append-nil}
 use Rattle.std.specs.Ordering.{nat_cmp, eq_by_cmp}
 use Rattle.std.specs.Cmp.Lexicographic.{slice_cmp, nat_list_cmp_total}
-use Rattle.std.specs.FinMap.{FinMap, get, insert, get-insert}
+use Rattle.std.specs.FinMap.{get, insert, get-insert}
 use Rattle.base_io.specs.Contents.{Bytes, Contents, KeepsOthers}
 use Rattle.base_io.specs.declared.end.End.{End}
 use Rattle.core_tree.specs.Tree.{ModuleTree}
@@ -11,7 +11,7 @@ use Rattle.meaning.specs.Program.{src}
 use Rattle.c_tree.specs.Spelling.{CText}
 use Rattle.plan_rules.specs.Joined.{joined}
 use Rattle.object_text.specs.Format.{ObjectTree, ObjectText}
-use Rattle.unit_compile.specs.Compilation.{IsModuleOf, Compiled}
+use Rattle.unit_compile.specs.Compilation.{Compiled}
 use Rattle.linker.specs.Links.{Linked}
 use Rattle.simulation.specs.Law.{KeepsMeaning}
 use Rattle.commands.specs.declared.command.Command.{Command}
@@ -20,11 +20,11 @@ use Rattle.session.specs.declared.answer.Effect.{Effect}
 use Rattle.session.specs.declared.answer.Effect.TheVariants.{Nothing, Wrote, Ran}
 use Rattle.session.specs.declared.answer.Halt.{Halt}
 use Rattle.session.specs.declared.answer.Halt.TheVariants.{NoFile, FileFault, WriteFault, Refused, Memory}
-use Rattle.session.specs.Works.{Kind, as_given, as_object, as_program, Held, Stands, MeansSource, AllStand, bytes_of, Gives, Refuses, MayAdd, reads_of, writes_of, kind_of_work, kind_of_linked, kind_of_joined}
+use Rattle.session.specs.Works.{Kind, as_given, as_object, as_program, Held, Stands, MeansSource, AllStand, bytes_of, Gives, MayAdd, reads_of, writes_of, kind_of_work, kind_of_linked, kind_of_joined}
 use Rattle.session.specs.Outside.{missing, ReadAll, WroteOne}
-use Rattle.session.specs.Done.{Performs, Added}
+use Rattle.session.specs.Done.{Performs}
 use Rattle.session.specs.Steps.{Finished}
-use Rattle.session.specs.Scripts.{State, held, after, Steps, Stops, Same, FilesBut, CutOff, Remains, Kept, Agrees, LineDid}
+use Rattle.session.specs.Scripts.{State, held, after, Steps, Stops, Same, FilesBut, CutOff, Remains, Kept, LineDid}
 
 -- For each command --------------------------------------------------------------------------
 

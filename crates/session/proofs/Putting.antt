@@ -1,5 +1,5 @@
 -- Bytes that are written piece by piece.
-use Rattle.std.proofs.Common.{◌≡◌, ℕ, List, [], ◌++◌, take, drop, Option, Some, None, Result, Ok, Err, refl, ap, sym, ◌∙◌, subst, append_assoc}
+use Rattle.std.proofs.Common.{◌≡◌, ℕ, [], ◌++◌, take, drop, Option, Some, None, Ok, Err, refl, ap, sym, ◌∙◌, subst, append_assoc}
 use Rattle.std.proofs.lemmas.List.{append-nil, take-append-drop}
 use Rattle.std.specs.Io.KnownBytes.{Appends, Keeps}
 use Rattle.base_io.specs.Contents.{Bytes}
@@ -43,3 +43,11 @@ put_failed None mid new bytes rest e so_far one = tt
 put_failed (Some old) mid new bytes rest e so_far one =
     let step : Keeps (Some (old ++ so_far.0)) new = subst (λ (m : Option Bytes). Keeps m new) so_far.1.1 one in
     (so_far.0, (rest, so_far.1.0, kept (old ++ so_far.0) new step))
+
+-- Texts of five pieces ----------------------------------------------------------------------
+
+pub five_pieces : (a b c d e t u v w : Bytes) → t ≡ a ++ b → u ≡ t ++ c → v ≡ u ++ d → w ≡ v ++ e → w ≡ a ++ (b ++ c ++ d ++ e)
+five_pieces a b c d e t u v w t_is u_is v_is w_is =
+    let first : u ≡ a ++ (b ++ c) = u_is ∙ ap (λ (l : Bytes). l ++ c) t_is ∙ append_assoc a b c in
+    let next : v ≡ a ++ (b ++ c ++ d) = v_is ∙ ap (λ (l : Bytes). l ++ d) first ∙ append_assoc a (b ++ c) d in
+    w_is ∙ ap (λ (l : Bytes). l ++ e) next ∙ append_assoc a (b ++ c ++ d) e

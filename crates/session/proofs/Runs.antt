@@ -1,23 +1,19 @@
 -- A run of a text, in its steps.
-use Rattle.std.proofs.Common.{◌≡◌, ◌⊎◌, ℕ, List, [], ◌∷◌, ◌++◌, Option, Some, None, Result, Ok, Err, inl, inr, refl, ap, sym, ◌∙◌, subst, append_assoc}
-use Rattle.std.proofs.lemmas.List.{append-nil}
+use Rattle.std.proofs.Common.{◌≡◌, ℕ, List, ◌++◌, Option, Some, None, Result, Ok, Err, inl, inr, refl, ap, sym, ◌∙◌, subst, append_assoc}
 use Rattle.base_io.specs.Contents.{Bytes}
 use Rattle.base_io.specs.Observation.{Observation}
 use Rattle.base_io.specs.declared.end.End.{End}
 use Rattle.base_io.specs.declared.end.RunErr.{RunErr}
-use Rattle.base_io.specs.declared.end.RunErr.TheVariants as run_err
-use Rattle.c_tree.specs.Code.{Item, items_of}
-use Rattle.c_tree.specs.Spelling.{CText}
+use Rattle.c_tree.specs.Code.{Item}
 use Rattle.c_tree.specs.declared.tree.CProgram.{CProgram}
 use Rattle.c_meaning.specs.Program.{cm}
 use Rattle.c_meaning.specs.Checked.{IsChecked}
-use Rattle.c_machine.specs.Runs.{Ran, WrotePart}
+use Rattle.c_machine.specs.Runs.{Ran}
 use Rattle.session.specs.declared.answer.Halt.{Halt}
 use Rattle.session.specs.declared.answer.Halt.TheVariants.{NoFile, FileFault, WriteFault, Refused, Memory}
-use Rattle.session.specs.declared.answer.Refusal.TheVariants.{NotBuilt}
 use Rattle.session.specs.Outside.{PutAll}
-use Rattle.session.specs.Works.{IsProgramText, TextRuns, NotRun, last_line, printed, no_input}
-use Rattle.session.specs.Done.{HasTree, ProgramRead, Loaded, RanTo, CutRun, TextRan}
+use Rattle.session.specs.Works.{IsProgramText, TextRuns, NotRun, last_line, no_input}
+use Rattle.session.specs.Done.{HasTree, ProgramRead, Loaded, RanTo, TextRan}
 
 -- the machine failed
 pub machine_failed : (old new : Option Bytes) (seen : Observation) (e : RunErr) → Ran old new seen (Err e) → RanTo old new seen (Err e)

@@ -15,11 +15,11 @@ use Rattle.session.specs.declared.answer.Effect.{Effect}
 use Rattle.session.specs.declared.answer.Refusal.TheVariants.{NotBuilt}
 use Rattle.session.specs.declared.answer.Halt.{Halt}
 use Rattle.session.specs.declared.answer.Halt.TheVariants.{NoFile, FileFault, WriteFault, Refused, Memory}
-use Rattle.session.specs.Works.{Held, Gives, Refuses, MayAdd, IsProgramText, TextRuns, printed, NotCompiled, NotLinked, NotRun}
+use Rattle.session.specs.Works.{Held, Gives, Refuses, MayAdd, IsProgramText, TextRuns, printed, CompileRefuses, NotLinked, NotRun}
 
 abbrev pub CompileDid : Bytes → List Bytes → Result Bytes Halt → Type 0
 CompileDid source ifaces (Ok text) = Compiled source ifaces text
-CompileDid source ifaces (Err (Refused r)) = (r ≡ NotBuilt) × NotCompiled source ifaces
+CompileDid source ifaces (Err (Refused r)) = CompileRefuses source ifaces r
 CompileDid source ifaces (Err Memory) = Unit {0}
 CompileDid source ifaces (Err (NoFile n)) = ⊥
 CompileDid source ifaces (Err (FileFault n)) = ⊥

@@ -1,14 +1,14 @@
 -- What the program says of its answer.
-use Rattle.std.specs.Prelude.{ℕ, ◌-◌, List, [], ◌++◌, length, slice_get, codes, Option, Some, None}
+use Rattle.std.specs.Prelude.{ℕ, ◌-◌, [], ◌++◌, length, slice_get, codes, Option, Some, None}
 use Rattle.base_io.specs.Contents.{Bytes}
 use Rattle.base_io.specs.declared.end.End.{End}
 use Rattle.base_io.specs.declared.end.End.TheVariants.{Ended, Raised, Spent, Fault}
 use Rattle.scheme_data.specs.Decimal.{decimal_text}
-use Rattle.scheme_data.specs.declared.datum.LimitKind.TheVariants.{Bytes as TheBytes}
+use Rattle.scheme_data.specs.declared.datum.LimitKind.TheVariants.{Bytes as TheBytes, Depth}
 use Rattle.session.specs.declared.answer.Answer.{Answer}
 use Rattle.session.specs.declared.answer.Answer.TheVariants as answer
 use Rattle.session.specs.declared.answer.Refusal.{Refusal}
-use Rattle.session.specs.declared.answer.Refusal.TheVariants.{NotBuilt, Limit}
+use Rattle.session.specs.declared.answer.Refusal.TheVariants.{NotBuilt, Syntax, Limit}
 
 -- The status --------------------------------------------------------------------------------
 
@@ -42,7 +42,9 @@ line_words number = codes "line " ++ decimal_text number
 
 abbrev pub refusal_words : Refusal → Bytes
 refusal_words NotBuilt = codes ": refusal 0"
+refusal_words (Syntax at) = codes ": refusal 1 " ++ decimal_text at.line ++ codes ":" ++ decimal_text at.column
 refusal_words (Limit TheBytes) = codes ": refusal 2 Bytes"
+refusal_words (Limit Depth) = codes ": refusal 2 Depth"
 
 -- one line without its end, and nothing where all was done
 abbrev pub message_of : Answer → Bytes

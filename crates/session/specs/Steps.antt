@@ -1,6 +1,6 @@
 -- What the last step of a line does.
 use Rattle.std.specs.Prelude.{◌≡◌, List, [], ◌∷◌, ◌++◌, Option, Result, Ok, Err}
-use Rattle.base_io.specs.Contents.{Bytes, Contents}
+use Rattle.base_io.specs.Contents.{Contents}
 use Rattle.base_io.specs.declared.end.End.{End}
 use Rattle.session.specs.declared.answer.Effect.{Effect}
 use Rattle.session.specs.declared.answer.Effect.TheVariants.{Nothing, Wrote, Ran}

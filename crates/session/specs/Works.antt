@@ -1,6 +1,9 @@
 -- What each command reads, writes, gives and refuses. A further command adds its equations here.
 use Rattle.std.specs.Prelude.{◌≡◌, ◌⊎◌, ℕ, List, [], ◌∷◌, ◌++◌, map, codes}
 use Rattle.scheme_data.specs.Decimal.{decimal_text}
+use Rattle.scheme_data.specs.declared.datum.Place.{Place}
+use Rattle.scheme_read.specs.declared.error.ReadErr.TheVariants as reading
+use Rattle.scheme_read.specs.Answers.{IsFault}
 use Rattle.base_io.specs.Contents.{Bytes}
 use Rattle.base_io.specs.Observation.{Observation}
 use Rattle.base_io.specs.declared.end.End.{End}
@@ -12,12 +15,12 @@ use Rattle.c_tree.specs.Spelling.{CText}
 use Rattle.c_meaning.specs.Program.{cm}
 use Rattle.c_meaning.specs.Checked.{IsChecked}
 use Rattle.object_text.specs.Format.{ObjectTree, ObjectText}
-use Rattle.unit_compile.specs.Compilation.{IsModuleOf, Compiled}
+use Rattle.unit_compile.specs.Compilation.{IsModuleOf, Compiled, NotCompiled}
 use Rattle.linker.specs.Links.{Linked}
 use Rattle.commands.specs.declared.command.Command.{Command}
 use Rattle.commands.specs.declared.command.Command.TheVariants.{Blank, Iface, Compile, Link, Run}
 use Rattle.session.specs.declared.answer.Refusal.{Refusal}
-use Rattle.session.specs.declared.answer.Refusal.TheVariants.{NotBuilt}
+use Rattle.session.specs.declared.answer.Refusal.TheVariants.{NotBuilt, Syntax, Limit}
 use Rattle.session.specs.declared.answer.Effect.{Effect}
 use Rattle.session.specs.declared.answer.Effect.TheVariants.{Nothing, Wrote, Ran}
 
@@ -167,8 +170,11 @@ MayAdd command hs added = (added ≡ []) ⊎ ((rest : Bytes) × ((effect : Effec
 
 -- What a command refuses --------------------------------------------------------------------
 
-abbrev pub NotCompiled : Bytes → List Bytes → Type 0
-NotCompiled source ifaces = (m : ModuleTree) → IsModuleOf source m → ifaces ≡ [] → ⊥
+-- a source is refused for its fault; where it is read, as not built
+abbrev pub CompileRefuses : Bytes → List Bytes → Refusal → Type 0
+CompileRefuses source ifaces NotBuilt = NotCompiled source ifaces
+CompileRefuses source ifaces (Syntax at) = IsFault source (reading.Syntax at)
+CompileRefuses source ifaces (Limit kind) = (at : Place) × IsFault source (reading.Limit kind at)
 
 abbrev pub NotLinked : List Bytes → Type 0
 NotLinked objects = (bytes : Bytes) (o : ObjectTree) → objects ≡ bytes ∷ [] → ObjectText bytes o → ⊥
@@ -181,7 +187,7 @@ unfoldable pub Refuses : Command → List Held → Refusal → Type 0
 Refuses Blank hs refusal = ⊥
 Refuses (Iface source out) hs refusal = refusal ≡ NotBuilt
 Refuses (Compile source out ifaces) [] refusal = ⊥
-Refuses (Compile source out ifaces) (h ∷ hs) refusal = (refusal ≡ NotBuilt) × NotCompiled h.bytes (bytes_of hs)
+Refuses (Compile source out ifaces) (h ∷ hs) refusal = CompileRefuses h.bytes (bytes_of hs) refusal
 Refuses (Link out objects) hs refusal = (refusal ≡ NotBuilt) × NotLinked (bytes_of hs)
 Refuses (Run program turns args) [] refusal = ⊥
 Refuses (Run program turns args) (h ∷ hs) refusal = (refusal ≡ NotBuilt) × NotRun h.bytes

@@ -46,6 +46,8 @@ fn compile(alloc: Global, source: &[u8], ifaces: &TextList) -> Result<Text, Halt
 {
     match compile_unit(alloc, source, ifaces) {
         Ok(text) => Ok(text),
+        Err(UnitErr::Syntax(at)) => Err(Halt::Refused(Refusal::Syntax(at))),
+        Err(UnitErr::Limit(kind)) => Err(Halt::Refused(Refusal::Limit(kind))),
         Err(UnitErr::NotBuilt) => Err(Halt::Refused(Refusal::NotBuilt)),
         Err(UnitErr::Memory) => Err(Halt::Memory),
     }

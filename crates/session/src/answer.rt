@@ -3,14 +3,16 @@ ghost use Rattle.std.specs.Prelude.{◌≡◌};
 ghost use Rattle.session.specs.Scripts.{answer_of};
 
 use base_io::{End, Ends};
-use scheme_data::{LimitKind, OutOfMemory, Text};
+use scheme_data::{LimitKind, OutOfMemory, Place, Text};
 
 /// Why a line is refused.
 #[derive(Clone, Copy, Debug, PartialEq, Eq)]
 pub enum Refusal {
-    /// It wants what isn't built, as do all sources and texts that aren't read.
+    /// It wants what isn't built, as do objects and programs that aren't read.
     NotBuilt,
-    /// Something has more than its limit.
+    /// Its source is no text of data, and is at fault here.
+    Syntax(Place),
+    /// Its source, or the script, has more than may be.
     Limit(LimitKind),
 }
 

@@ -5,7 +5,7 @@ ghost use Rattle.session.specs.Messages.{status_of, end_status, message_of, line
 
 use crate::answer::{Answer, Refusal};
 use base_io::End;
-use scheme_data::{LimitKind, OutOfMemory, Text, push_number};
+use scheme_data::{LimitKind, OutOfMemory, Place, Text, push_number};
 use std::alloc::Global;
 
 fn status_of_end(end: &End) -> u8
@@ -69,12 +69,24 @@ fn name_text(alloc: Global, words: &[u8], name: &Text) -> Result<Text, OutOfMemo
     Ok(text)
 }
 
+fn fault_text(alloc: Global, number: u64, at: Place) -> Result<Text, OutOfMemory>
+    ensures { IfOk result (λ text. text ≡ line_words number ++ refusal_words (Refusal.Syntax at)) }
+{
+    let mut text = line_text(alloc, number, b": refusal 1 ")?;
+    push_decimal(&mut text, at.line as u64)?;
+    text.push(b':')?;
+    push_decimal(&mut text, at.column as u64)?;
+    Ok(text)
+}
+
 fn refusal_text(alloc: Global, number: u64, refusal: Refusal) -> Result<Text, OutOfMemory>
     ensures { IfOk result (λ text. text ≡ line_words number ++ refusal_words refusal) }
 {
     match refusal {
         Refusal::NotBuilt => line_text(alloc, number, b": refusal 0"),
+        Refusal::Syntax(at) => fault_text(alloc, number, at),
         Refusal::Limit(LimitKind::Bytes) => line_text(alloc, number, b": refusal 2 Bytes"),
+        Refusal::Limit(LimitKind::Depth) => line_text(alloc, number, b": refusal 2 Depth"),
     }
 }
 

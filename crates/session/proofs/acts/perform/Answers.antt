@@ -1,7 +1,6 @@
-use Rattle.std.proofs.Common.{◌≡◌, ◌∙◌, refl, ap, List, ◌∷◌, Ok, Err}
+use Rattle.std.proofs.Common.{◌∙◌, refl, ap, List, ◌∷◌, Ok, Err}
 use Rattle.base_io.specs.Contents.{Bytes}
 use Rattle.std.proofs.lemmas.Result.{err_from_is_err_and}
-use Rattle.session.specs.declared.answer.Effect.TheVariants.{Ran}
 use Rattle.session.proofs.Acting.{cut, blank_done, iface_refused, compile_stops, compile_done, link_stops, link_done, run_done, compile_reads, run_reads, first_text, others_are, compile_told}
 use Rattle.session.proofs.acts.perform.Goals as goal
 

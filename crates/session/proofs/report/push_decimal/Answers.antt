@@ -1,4 +1,4 @@
-use Rattle.std.proofs.Common.{◌≡◌, ◌++◌, ℕ, ◌+◌, ◌%◌, ◌/◌, List, [], ◌∷◌, ℤ, w64, arith, ap, sym, ◌∙◌, append_assoc}
+use Rattle.std.proofs.Common.{◌++◌, ℕ, ◌+◌, ◌%◌, ◌/◌, List, [], ◌∷◌, ℤ, w64, arith, ap, sym, ◌∙◌, append_assoc}
 use Rattle.scheme_data.specs.Decimal.{decimal_text, number_text}
 use Rattle.std.proofs.lemmas.Int.{to_z_pos}
 use Rattle.session.proofs.Decimals.{by_tenth}

@@ -1,4 +1,4 @@
-use Rattle.std.proofs.Common.{◌≡◌, ◌∙◌, refl, sym, subst, Option, Some, [], ◌∷◌}
+use Rattle.std.proofs.Common.{◌∙◌, refl, sym, subst, Option, Some, [], ◌∷◌}
 use Rattle.base_io.specs.Contents.{Bytes}
 use Rattle.session.specs.Scripts.{ScriptDid, NamedDid, usage, one_line, named, sample, memory}
 use Rattle.session.proofs.script.bglc.Goals as goal

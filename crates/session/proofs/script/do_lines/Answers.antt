@@ -1,4 +1,4 @@
-use Rattle.std.proofs.Common.{◌≡◌, ◌∙◌, refl, sym, ap, arith, map, Some, None, ℕ, ◌+◌, Err}
+use Rattle.std.proofs.Common.{◌∙◌, refl, sym, ap, arith, map, Some, None, ℕ, ◌+◌, Err}
 use Rattle.commands.specs.Commands.{parsed}
 use Rattle.session.specs.declared.answer.Answer.TheVariants.{BadLine}
 use Rattle.session.specs.Scripts.{answer_of}

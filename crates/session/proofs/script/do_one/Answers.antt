@@ -1,4 +1,4 @@
-use Rattle.std.proofs.Common.{◌≡◌, ◌∙◌, sym, ap, Err}
+use Rattle.std.proofs.Common.{◌∙◌, sym, ap, Err}
 use Rattle.session.proofs.Folding.{one_done, one_halted, file_fault_of, write_fault_of, no_usage_of, no_bad_line_of, no_read_fault_of, no_long_input_of}
 use Rattle.session.proofs.script.do_one.Goals as goal
 

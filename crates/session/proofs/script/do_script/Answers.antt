@@ -1,4 +1,4 @@
-use Rattle.std.proofs.Common.{◌≡◌, ◌∙◌, sym, ap, Err}
+use Rattle.std.proofs.Common.{◌∙◌, sym, ap, Err}
 use Rattle.session.proofs.Folding.{file_fault_of, write_fault_of, no_usage_of, no_read_fault_of, no_long_input_of, rose_since}
 use Rattle.session.proofs.Top.{named_unread, named_long, named_no_memory, named_done}
 use Rattle.session.proofs.script.do_script.Goals as goal
