@@ -1,17 +1,35 @@
 // What scripts answer, print and write.
-use crate::world::{SCRIPT, World, source_of};
+use crate::hello::{HELLO_OBJECT, HELLO_PROGRAM};
+use crate::world::{
+    FIVE_TURNS, FOUR_TURNS, MANY_TURNS, NO_TURN, SCRIPT, THREE_TURNS, World, source_of,
+};
 use scheme_data::{OutOfMemory, Text};
 use session::{message, status};
 use std::alloc::Global;
 
+/// A file and what it holds; none where it isn't there.
+type Holds<'a> = (&'a [u8], Option<&'a [u8]>);
+
 /// A script over one source, and what is seen of it.
 #[derive(Drop)]
-struct Row {
-    source: &'static [u8],
-    script: &'static [u8],
+struct Row<'a> {
+    source: &'a [u8],
+    script: &'a [u8],
     status: u8,
-    output: &'static [u8],
-    message: &'static [u8],
+    output: &'a [u8],
+    message: &'a [u8],
+    files: &'a [Holds<'a>],
+}
+
+const HELLO: &[u8] = b"(module hello (main go)) (define (go args) (display (+ 40 2)) (newline))";
+
+fn all_hold(world: &World, files: &[Holds]) -> Result<bool, OutOfMemory> {
+    for (name, content) in files {
+        if !world.holds(name, *content)? {
+            return Ok(false);
+        }
+    }
+    Ok(true)
 }
 
 fn passes(alloc: Global, row: &Row) -> Result<bool, OutOfMemory> {
@@ -21,77 +39,137 @@ fn passes(alloc: Global, row: &Row) -> Result<bool, OutOfMemory> {
     Ok(
         status(&answer) == row.status
             && world.out.bytes() == row.output
-            && told.as_bytes() == row.message,
+            && told.as_bytes() == row.message
+            && all_hold(&world, row.files)?,
     )
 }
 
-fn whole(body: &'static [u8], status: u8, output: &'static [u8]) -> Row {
+/// A source whose program is run with one turn.
+fn once<'a>(source: &'a [u8], status: u8, output: &'a [u8]) -> Row<'a> {
+    with_turns(source, SCRIPT, status, output)
+}
+
+fn with_turns<'a>(source: &'a [u8], script: &'a [u8], status: u8, output: &'a [u8]) -> Row<'a> {
     Row {
-        source: body,
-        script: SCRIPT,
+        source,
+        script,
         status,
         output,
         message: b"",
+        files: &[],
     }
 }
 
-#[test]
-fn hello_prints_42(rt: HostRuntime) -> Result<(), OutOfMemory> {
-    let row = whole(
-        b"(module hello (main go)) (define (go args) (display (+ 40 2)) (newline))",
-        0,
-        b"42\n",
-    );
-    assert!(rt; passes(rt.alloc(), &row)?);
-    Ok(())
+fn all_pass(alloc: Global, rows: &[Row]) -> Result<bool, OutOfMemory> {
+    for row in rows {
+        if !passes(alloc, row)? {
+            return Ok(false);
+        }
+    }
+    Ok(true)
 }
 
 #[test]
-fn no_turn_is_left(rt: HostRuntime) -> Result<(), OutOfMemory> {
+fn hello_prints_42_and_leaves_an_object_and_a_text(rt: HostRuntime) -> Result<(), OutOfMemory> {
     let row = Row {
-        source: b"(module hello (main go)) (define (go args) (display (+ 40 2)) (newline))",
-        script: b"compile h.scm h.o\nlink h.c h.o\nrun h.c 0",
-        status: 251,
-        output: b"",
+        source: HELLO,
+        script: SCRIPT,
+        status: 0,
+        output: b"42\n",
         message: b"",
+        files: &[
+            (b"h.scm", Some(HELLO)),
+            (b"h.o", Some(HELLO_OBJECT)),
+            (b"h.c", Some(HELLO_PROGRAM)),
+        ],
     };
     assert!(rt; passes(rt.alloc(), &row)?);
     Ok(())
 }
 
 #[test]
-fn sum_leaves_range(rt: HostRuntime) -> Result<(), OutOfMemory> {
-    let over = whole(
-        b"(module t (main go)) (define (go args) (display (+ 1152921504606846975 1)))",
-        250,
-        b"error 3 +\n",
-    );
-    let within = whole(
-        b"(module t (main go)) (define (go args) (display (+ 1152921504606846974 1)))",
-        0,
-        b"1152921504606846975",
-    );
-    assert!(rt; passes(rt.alloc(), &over)?);
-    assert!(rt; passes(rt.alloc(), &within)?);
+fn programs_print_and_end_as_their_rows_say(rt: HostRuntime) -> Result<(), OutOfMemory> {
+    let rows = [
+        with_turns(HELLO, NO_TURN, 251, b""),
+        once(
+            b"(module t (main go)) (define (go args) (display (+ 1 1152921504606846975)))",
+            250,
+            b"error 3 +\n",
+        ),
+        once(
+            b"(module t (main go)) (define (go args) (display (+ 1 1152921504606846974)))",
+            0,
+            b"1152921504606846975",
+        ),
+        once(
+            b"(module t (main go)) (define (go args) (+ (display 1) (display -2)))",
+            250,
+            b"1-2error 1 long\n",
+        ),
+        once(
+            b"(module t (main go)) (define (go args) 1 (+ 200 55))",
+            255,
+            b"",
+        ),
+        once(
+            b"; (module u\n(module t #| a #| b |# c |# (main go)) ; \"\n(define (go args) (display #|)|# 42)) #||#",
+            0,
+            b"42",
+        ),
+    ];
+    assert!(rt; all_pass(rt.alloc(), &rows)?);
+    Ok(())
+}
+
+const ORDERED: &[u8] =
+    b"(module t (main go)) (define (f a b) (display a) (newline) b) (define (go args) (display (f (f 1 2) (f 3 4))))";
+
+const ENDLESS: &[u8] = b"(module t (main go)) (define (f) (display 7) (f)) (define (go args) (f))";
+
+#[test]
+fn calls_take_turns_and_their_arguments_come_from_left_to_right(
+    rt: HostRuntime,
+) -> Result<(), OutOfMemory> {
+    let rows = [
+        with_turns(ORDERED, FOUR_TURNS, 0, b"1\n3\n2\n4"),
+        with_turns(ORDERED, THREE_TURNS, 251, b"1\n3\n"),
+        with_turns(ENDLESS, FIVE_TURNS, 251, b"7777"),
+        with_turns(ENDLESS, FOUR_TURNS, 251, b"777"),
+    ];
+    assert!(rt; all_pass(rt.alloc(), &rows)?);
     Ok(())
 }
 
 #[test]
-fn arguments_come_before_their_types(rt: HostRuntime) -> Result<(), OutOfMemory> {
-    let row = whole(
-        b"(module t (main go)) (define (go args) (+ (display 1) (display -2)))",
-        250,
-        b"1-2error 1 long\n",
-    );
-    assert!(rt; passes(rt.alloc(), &row)?);
+fn wrong_number_of_arguments_is_error_2(rt: HostRuntime) -> Result<(), OutOfMemory> {
+    let rows = [
+        once(
+            b"(module t (main go)) (define (f n) n) (define (go args) (display (f)))",
+            250,
+            b"error 2 1\n",
+        ),
+        with_turns(
+            b"(module t (main go)) (define (f n) n) (define (go args) (display (f)))",
+            NO_TURN,
+            251,
+            b"",
+        ),
+        once(
+            b"(module t (main go)) (define (go args) (f (display 1) (display 2)) (newline)) (define (f) 3)",
+            250,
+            b"12error 2 0\n",
+        ),
+    ];
+    assert!(rt; all_pass(rt.alloc(), &rows)?);
     Ok(())
 }
 
 #[test]
-fn result_is_the_status(rt: HostRuntime) -> Result<(), OutOfMemory> {
-    let row = whole(
-        b"(module t (main go)) (define (go args) 1 (+ 200 55))",
-        255,
+fn calls_nest_100_000_deep(rt: HostRuntime) -> Result<(), OutOfMemory> {
+    let row = with_turns(
+        b"(module t (main go)) (define (f n) (+ 1 (f n))) (define (go args) (f 1))",
+        MANY_TURNS,
+        251,
         b"",
     );
     assert!(rt; passes(rt.alloc(), &row)?);
@@ -99,40 +177,26 @@ fn result_is_the_status(rt: HostRuntime) -> Result<(), OutOfMemory> {
 }
 
 #[test]
-fn refused_source_makes_no_object(rt: HostRuntime) -> Result<(), OutOfMemory> {
-    let alloc = rt.alloc();
-    let mut world = World::new(
-        alloc,
-        b"(module t (main go)) (define (go args) (lambda (x) x))",
-        SCRIPT,
-        0,
-    )?;
-    let answer = world.does(&[b"do".as_slice(), b"s".as_slice()])?;
-    assert_eq!(rt; status(&answer), 247);
-    assert_eq!(rt;
-        message(alloc, &answer)?.as_bytes(),
-        b"line 1: refusal 0".as_slice()
-    );
-    assert!(rt; !world.has(b"h.o")?);
-    Ok(())
-}
-
-#[test]
-fn bad_line_ends_the_script(rt: HostRuntime) -> Result<(), OutOfMemory> {
-    let alloc = rt.alloc();
-    let mut world = World::new(
-        alloc,
-        b"(module t (main go)) (define (go args) 1)",
-        b"compile h.scm h.o\ncomplie h.scm h.o\n",
-        0,
-    )?;
-    let answer = world.does(&[b"do".as_slice(), b"s".as_slice()])?;
-    assert_eq!(rt; status(&answer), 241);
-    assert_eq!(rt;
-        message(alloc, &answer)?.as_bytes(),
-        b"line 2: not a command".as_slice()
-    );
-    assert!(rt; world.has(b"h.o")?);
+fn refused_line_writes_nothing_and_earlier_lines_stand(rt: HostRuntime) -> Result<(), OutOfMemory> {
+    let rows = [
+        Row {
+            source: b"(module t (main go)) (define (go args) (lambda (x) x))",
+            script: SCRIPT,
+            status: 247,
+            output: b"",
+            message: b"line 1: refusal 0",
+            files: &[(b"h.o", None), (b"h.c", None)],
+        },
+        Row {
+            source: HELLO,
+            script: b"compile h.scm h.o\ncomplie h.scm h.o\n",
+            status: 241,
+            output: b"",
+            message: b"line 2: not a command",
+            files: &[(b"h.o", Some(HELLO_OBJECT)), (b"h.c", None)],
+        },
+    ];
+    assert!(rt; all_pass(rt.alloc(), &rows)?);
     Ok(())
 }
 
@@ -163,6 +227,71 @@ fn words_that_are_no_command_and_missing_files_are_told(
     Ok(())
 }
 
+/// Whether a source is refused with these words, and has no object.
+fn is_refused(alloc: Global, source: &[u8], words: &[u8]) -> Result<bool, OutOfMemory> {
+    let mut world = World::new(alloc, source, SCRIPT, 0)?;
+    let answer = world.does(&[b"do".as_slice(), b"s".as_slice()])?;
+    let told = message(alloc, &answer)?;
+    Ok(
+        status(&answer) == 247
+            && told.as_bytes() == words
+            && world.out.bytes().is_empty()
+            && world.holds(b"h.o", None)?,
+    )
+}
+
+#[test]
+fn sources_at_fault_are_refused_with_cause_and_place(rt: HostRuntime) -> Result<(), OutOfMemory> {
+    let rows: [(&[u8], &[u8]); 6] = [
+        (b"(module m", b"line 1: refusal 1 1:10"),
+        (b"(module m) \"ab", b"line 1: refusal 1 1:12"),
+        (b"(module m)\n; (\n )", b"line 1: refusal 1 3:2"),
+        (b"(module m) #| |", b"line 1: refusal 1 1:12"),
+        (b"(module m (. f))", b"line 1: refusal 1 1:12"),
+        (
+            b"(module m (main go)) (define (go args) #t)",
+            b"line 1: refusal 0",
+        ),
+    ];
+    for (source, words) in rows {
+        assert!(rt; is_refused(rt.alloc(), source, words)?);
+    }
+    Ok(())
+}
+
+// So many openings.
+fn openings(alloc: Global, count: u32) -> Result<Text, OutOfMemory> {
+    let mut text = Text::new(alloc);
+    for _ in 0..count {
+        text.push(b'(')?;
+    }
+    Ok(text)
+}
+
+// Spaces, 2 to the power of a number.
+fn spaces(alloc: Global, power: u32) -> Result<Text, OutOfMemory> {
+    let mut text = Text::from_bytes(alloc, b" ")?;
+    for _ in 0..power {
+        let half = text.copy(alloc)?;
+        text.extend(half.as_bytes())?;
+    }
+    Ok(text)
+}
+
+#[test]
+fn sources_over_a_limit_are_refused(rt: HostRuntime) -> Result<(), OutOfMemory> {
+    let alloc = rt.alloc();
+    let deep = openings(alloc, 201)?;
+    assert!(rt; is_refused(alloc, deep.as_bytes(), b"line 1: refusal 2 Depth")?);
+    let low = openings(alloc, 200)?;
+    assert!(rt; is_refused(alloc, low.as_bytes(), b"line 1: refusal 1 1:201")?);
+    let mut long = spaces(alloc, 20)?;
+    assert!(rt; is_refused(alloc, long.as_bytes(), b"line 1: refusal 0")?);
+    long.push(b'(')?;
+    assert!(rt; is_refused(alloc, long.as_bytes(), b"line 1: refusal 2 Bytes")?);
+    Ok(())
+}
+
 // A sum nested this deep, printed.
 fn nested(alloc: Global, depth: u32) -> Result<Text, OutOfMemory> {
     let mut body = Text::from_bytes(alloc, b"(display ")?;
@@ -190,8 +319,6 @@ fn nesting_200_is_read_and_201_is_not(rt: HostRuntime) -> Result<(), OutOfMemory
     assert_eq!(rt; status(&answer), 0);
     assert_eq!(rt; world.out.bytes(), b"199".as_slice());
     let source = nested(alloc, 199)?;
-    let mut world = World::new(alloc, source.as_bytes(), SCRIPT, 0)?;
-    let answer = world.does(&[b"do".as_slice(), b"s".as_slice()])?;
-    assert_eq!(rt; status(&answer), 247);
+    assert!(rt; is_refused(alloc, source.as_bytes(), b"line 1: refusal 2 Depth")?);
     Ok(())
 }

@@ -7,6 +7,17 @@ use std::alloc::Global;
 /// The three lines of a whole script.
 pub const SCRIPT: &[u8] = b"compile h.scm h.o\nlink h.c h.o\nrun h.c 1\n";
 
+/// The same with other numbers of turns.
+pub const NO_TURN: &[u8] = b"compile h.scm h.o\nlink h.c h.o\nrun h.c 0\n";
+
+pub const THREE_TURNS: &[u8] = b"compile h.scm h.o\nlink h.c h.o\nrun h.c 3\n";
+
+pub const FOUR_TURNS: &[u8] = b"compile h.scm h.o\nlink h.c h.o\nrun h.c 4\n";
+
+pub const FIVE_TURNS: &[u8] = b"compile h.scm h.o\nlink h.c h.o\nrun h.c 5\n";
+
+pub const MANY_TURNS: &[u8] = b"compile h.scm h.o\nlink h.c h.o\nrun h.c 100001\n";
+
 /// The objects that a script is handed.
 #[derive(Drop)]
 pub struct World {
@@ -64,10 +75,14 @@ impl World {
         ))
     }
 
-    /// Whether a file holds something.
-    pub fn has(&self, name: &[u8]) -> Result<bool, OutOfMemory> {
+    /// Whether a file holds this content, or isn't there.
+    pub fn holds(&self, name: &[u8], content: Option<&[u8]>) -> Result<bool, OutOfMemory> {
         let name = Text::from_bytes(self.alloc, name)?;
-        Ok(self.files.content(&name).is_some())
+        Ok(match (self.files.content(&name), content) {
+            (Some(have), Some(want)) => have.as_bytes() == want,
+            (None, None) => true,
+            _ => false,
+        })
     }
 }
 
