@@ -2,9 +2,9 @@
 use Rattle.std.specs.Prelude.{ℕ, List, [], ◌∷◌, ◌++◌, map, find, filter, nat_le, nat_lt, ℤ, pos, negsuc, Bool, true, false, not, ◌&&◌, ◌||◌, if◌then◌else◌, IsTrue, Option, Some, None}
 use Rattle.std.specs.List.{list_all, list_any}
 use Rattle.scheme_data.specs.Fixnum.{is_fixnum}
-use Rattle.prim_table.specs.declared.primitives.Primitive.TheVariants.{Add, Display, Newline}
+use Rattle.prim_table.specs.declared.primitives.Primitive.TheVariants.{Add, Less, Display, Newline}
 use Rattle.c_tree.specs.declared.op.Op.{Op}
-use Rattle.c_tree.specs.declared.op.Op.TheVariants.{BoxLong, UnboxLong, Raise, Args, Status, Primitive as Does}
+use Rattle.c_tree.specs.declared.op.Op.TheVariants.{BoxLong, BoxBool, UnboxLong, Truth, Raise, Args, Status, Primitive as Does}
 use Rattle.c_tree.specs.declared.tree.CTy.{CTy}
 use Rattle.c_tree.specs.declared.tree.CTy.TheVariants.{Obj, Long, Char, Int}
 use Rattle.c_tree.specs.declared.tree.CAtom.{CAtom}
@@ -16,7 +16,7 @@ use Rattle.c_tree.specs.declared.tree.Callee.TheVariants as callee
 use Rattle.c_tree.specs.declared.tree.CExpr.{CExpr}
 use Rattle.c_tree.specs.declared.tree.CExpr.TheVariants as expr
 use Rattle.c_tree.specs.declared.tree.CVar.{CVar}
-use Rattle.c_tree.specs.Code.{Code, done, assign, call, return, loop, Fun, Item, declared, defined}
+use Rattle.c_tree.specs.Code.{Code, done, assign, call, return, test, loop, Fun, Item, declared, defined}
 use Rattle.c_tree.specs.Names.{is_main}
 use Rattle.c_meaning.specs.Execution.{is_same}
 
@@ -88,21 +88,27 @@ pub data Wants : Type 0 where
 
 abbrev pub wants_of : Op → List Wants
 wants_of BoxLong = AType Long ∷ []
+wants_of BoxBool = AType Int ∷ []
 wants_of UnboxLong = AType Obj ∷ []
+wants_of Truth = AType Obj ∷ []
 wants_of Raise = AnError ∷ AText ∷ []
 wants_of Args = []
 wants_of Status = AType Obj ∷ []
 wants_of (Does Add) = AType Long ∷ AType Long ∷ []
+wants_of (Does Less) = AType Long ∷ AType Long ∷ []
 wants_of (Does Display) = AType Obj ∷ []
 wants_of (Does Newline) = []
 
 abbrev pub gives_of : Op → CTy
 gives_of BoxLong = Obj
+gives_of BoxBool = Obj
 gives_of UnboxLong = Long
+gives_of Truth = Int
 gives_of Raise = Int
 gives_of Args = Obj
 gives_of Status = Int
 gives_of (Does Add) = Long
+gives_of (Does Less) = Int
 gives_of (Does Display) = Obj
 gives_of (Does Newline) = Obj
 
@@ -148,12 +154,13 @@ assigned_fits sigs vars e (Some v) = expr_fits sigs vars e v.ty
 
 -- Statements --------------------------------------------------------------------------------
 
--- statements without a loop, whose types agree, where the function gives the result type
+-- statements without a loop, whose types agree, where the function gives the result type. A condition is an int
 abbrev pub code_fits : List Signature → List CVar → CTy → Code → Bool
 code_fits sigs vars result done = true
 code_fits sigs vars result (assign x e rest) = assigned_fits sigs vars e (variable_named vars x) && code_fits sigs vars result rest
 code_fits sigs vars result (call c rest) = has_type (call_type sigs vars c.callee c.args) && code_fits sigs vars result rest
 code_fits sigs vars result (return e rest) = expr_fits sigs vars e result && code_fits sigs vars result rest
+code_fits sigs vars result (test e a b rest) = expr_fits sigs vars e Int && (code_fits sigs vars result a && (code_fits sigs vars result b && code_fits sigs vars result rest))
 code_fits sigs vars result (loop l body rest) = false
 
 -- the last statement is `return`
@@ -163,6 +170,7 @@ returns_last (assign x e rest) = returns_last rest
 returns_last (call c rest) = returns_last rest
 returns_last (return e done) = true
 returns_last (return e rest) = returns_last rest
+returns_last (test e a b rest) = returns_last rest
 returns_last (loop l body rest) = false
 
 -- Functions ---------------------------------------------------------------------------------

@@ -10,9 +10,9 @@ use Rattle.c_tree.specs.declared.tree.Callee.{Callee}
 use Rattle.c_tree.specs.declared.tree.Callee.TheVariants as callee
 use Rattle.c_tree.specs.declared.tree.CExpr.{CExpr}
 use Rattle.c_tree.specs.declared.tree.CExpr.TheVariants as expr
-use Rattle.c_tree.specs.Code.{Code, done, assign, call, return, loop, Fun}
+use Rattle.c_tree.specs.Code.{Code, done, assign, call, return, test, loop, Fun}
 use Rattle.c_meaning.specs.Word.{False, True, Nil, Unspec, Eof}
-use Rattle.c_meaning.specs.State.{Cell, AWord, ANumber, State, Frame, put, blank, frame_of, Answer, Has, Faults, Flow, Next, Goes, Returns, Escapes, Raises, Spends, Fails, with, after, answer, take_turn}
+use Rattle.c_meaning.specs.State.{Cell, AWord, ANumber, State, Frame, put, blank, frame_of, Answer, Has, Faults, Flow, Next, Goes, Returns, Escapes, Raises, Spends, Fails, with, chosen, after, answer, take_turn}
 use Rattle.c_meaning.specs.Operations.{Argument, ACell, AString, operate}
 
 -- the names of a function's parameters and locals: a local stands for its position in them
@@ -80,6 +80,7 @@ looped lower names done f s = Fails Entry s
 looped lower names (assign x e rest) f s = Fails Entry s
 looped lower names (call c rest) f s = Fails Entry s
 looped lower names (return e rest) f s = Fails Entry s
+looped lower names (test e a b rest) f s = Fails Entry s
 
 abbrev pub enter : Lower → Option Fun → List Cell → State → Answer
 enter lower (Some f) cs s = answer (looped lower (names_of f) f.code (entry f cs) s)
@@ -105,6 +106,8 @@ module _ (p : List Fun) (lower : Lower) where
   exec names (assign x e rest) f s = with (eval names e f s) f (λ c s1. exec names rest (put (position_of x names) c f) s1)
   exec names (call c rest) f s = with (eval names (expr.Call c) f s) f (λ _ s1. exec names rest f s1)
   exec names (return e rest) f s = with (eval names e f s) f (λ c s1. Returns c s1)
+  exec names (test e a b rest) f s =
+      with (eval names e f s) f (λ c s1. after (chosen c s1 (exec names a f s1) (exec names b f s1)) (λ f1 s2. exec names rest f1 s2))
   exec names (loop l body rest) f s = after (iterate lower names l body f s) (λ f1 s1. exec names rest f1 s1)
 
 -- with a bound that is at least the turns left

@@ -1,11 +1,11 @@
 -- The operations on cells. Of cells that no checked program gives them they make a fault.
-use Rattle.std.specs.Prelude.{ℕ, List, [], ◌∷◌, ◌++◌, codes, nat_lt, ℤ, pos, negsuc, ◌+ℤ◌, if◌then◌else◌}
+use Rattle.std.specs.Prelude.{ℕ, List, [], ◌∷◌, ◌++◌, codes, nat_lt, ℤ, pos, negsuc, ◌+ℤ◌, int_lt, Bool, true, false, nat_eq, if◌then◌else◌}
 use Rattle.scheme_data.specs.Fixnum.{is_fixnum}
 use Rattle.base_io.specs.declared.end.FaultKind.TheVariants.{Tag}
 use Rattle.prim_table.specs.declared.primitives.Primitive.{Primitive}
-use Rattle.prim_table.specs.declared.primitives.Primitive.TheVariants.{Add, Display, Newline}
+use Rattle.prim_table.specs.declared.primitives.Primitive.TheVariants.{Add, Less, Display, Newline}
 use Rattle.c_tree.specs.declared.op.Op.{Op}
-use Rattle.c_tree.specs.declared.op.Op.TheVariants.{BoxLong, UnboxLong, Raise, Args, Status, Primitive as Does}
+use Rattle.c_tree.specs.declared.op.Op.TheVariants.{BoxLong, BoxBool, UnboxLong, Truth, Raise, Args, Status, Primitive as Does}
 use Rattle.c_meaning.specs.Word.{Word, Fixnum, False, True, Nil, Unspec, Eof, printed}
 use Rattle.c_meaning.specs.State.{Cell, AWord, ANumber, State, Answer, Has, Stops, Faults}
 
@@ -17,6 +17,36 @@ pub data Argument : Type 0 where
 abbrev pub box_long : List Argument → State → Answer
 box_long (ACell (ANumber n) ∷ []) s = Has (AWord (Fixnum n)) s
 box_long _ s = Faults Tag s
+
+-- 0 is false, and all else is true
+abbrev pub is_set : ℤ → Bool
+is_set (pos n) = if nat_eq n 0 then false else true
+is_set (negsuc n) = true
+
+abbrev pub truth_word : Bool → Word
+truth_word true = True
+truth_word false = False
+
+abbrev pub truth_number : Bool → ℤ
+truth_number true = pos 1
+truth_number false = pos 0
+
+abbrev pub box_bool : List Argument → State → Answer
+box_bool (ACell (ANumber n) ∷ []) s = Has (AWord (truth_word (is_set n))) s
+box_bool _ s = Faults Tag s
+
+-- only `#f` is false
+abbrev pub is_true : Word → Bool
+is_true False = false
+is_true True = true
+is_true (Fixnum n) = true
+is_true Nil = true
+is_true Unspec = true
+is_true Eof = true
+
+abbrev pub truth : List Argument → State → Answer
+truth (ACell (AWord w) ∷ []) s = Has (ANumber (truth_number (is_true w))) s
+truth _ s = Faults Tag s
 
 -- error 1 with `long` where it is no fixnum
 abbrev pub fixnum_in : Word → State → Answer
@@ -65,6 +95,10 @@ abbrev pub add : List Argument → State → Answer
 add (ACell (ANumber a) ∷ ACell (ANumber b) ∷ []) s = in_range (a +ℤ b) (codes "+") s
 add _ s = Faults Tag s
 
+abbrev pub less : List Argument → State → Answer
+less (ACell (ANumber a) ∷ ACell (ANumber b) ∷ []) s = Has (ANumber (truth_number (int_lt a b))) s
+less _ s = Faults Tag s
+
 abbrev pub print : List ℕ → State → State
 print text s = record s { output = s.output ++ text }
 
@@ -78,12 +112,15 @@ newline _ s = Faults Tag s
 
 abbrev pub does : Primitive → List Argument → State → Answer
 does Add = add
+does Less = less
 does Display = display
 does Newline = newline
 
 abbrev pub operate : Op → List Argument → State → Answer
 operate BoxLong = box_long
+operate BoxBool = box_bool
 operate UnboxLong = unbox_long
+operate Truth = truth
 operate Raise = raise
 operate Args = args
 operate Status = status

@@ -3,10 +3,10 @@ use Rattle.std.specs.Prelude.{◌≡◌, ℕ, List, [], ◌∷◌, ◌++◌, cod
 use Rattle.base_io.specs.declared.end.End.{End}
 use Rattle.base_io.specs.declared.end.End.TheVariants.{Ended, Raised, Spent}
 use Rattle.base_io.specs.Observation.{Observation}
-use Rattle.prim_table.specs.declared.primitives.Primitive.TheVariants.{Add, Display, Newline}
+use Rattle.prim_table.specs.declared.primitives.Primitive.TheVariants.{Add, Less, Display, Newline}
 use Rattle.scheme_data.specs.Decimal.{decimal_text}
 use Rattle.c_tree.specs.declared.op.Op.{Op}
-use Rattle.c_tree.specs.declared.op.Op.TheVariants.{BoxLong, UnboxLong, Raise, Args, Status, Primitive as Does}
+use Rattle.c_tree.specs.declared.op.Op.TheVariants.{BoxLong, BoxBool, UnboxLong, Truth, Raise, Args, Status, Primitive as Does}
 use Rattle.c_tree.specs.declared.tree.CTy.{CTy}
 use Rattle.c_tree.specs.declared.tree.CTy.TheVariants.{Obj, Long, Int}
 use Rattle.c_tree.specs.declared.tree.CAtom.TheVariants as atom
@@ -16,7 +16,7 @@ use Rattle.c_tree.specs.declared.tree.Callee.TheVariants as callee
 use Rattle.c_tree.specs.declared.tree.CCall.{CCall}
 use Rattle.c_tree.specs.declared.tree.CExpr.TheVariants as expr
 use Rattle.c_tree.specs.declared.tree.CVar.{CVar}
-use Rattle.c_tree.specs.Code.{Code, done, assign, call, return, loop, Item, declared, defined}
+use Rattle.c_tree.specs.Code.{Code, done, assign, call, return, test, loop, Item, declared, defined}
 use Rattle.c_tree.specs.Names.{local_name, label_name, function_name}
 use Rattle.c_meaning.specs.Program.{cm}
 use Rattle.c_meaning.specs.Checked.{is_sound, is_checked}
@@ -138,3 +138,49 @@ call_of_itself_without_declaration_is_not = refl
 wrong_number_of_arguments_is_not : is_checked (go_declared ∷ go (var Obj 1 ∷ []) (assign (local_name 1) (expr.Call (function [])) done) ∷ main ∷ []) ≡ false
 unfolding is_checked is_sound decimal_text local_name function_name label_name
 wrong_number_of_arguments_is_not = refl
+
+-- Branches ----------------------------------------------------------------------------------
+
+-- `x1 = bgl_p__3c(a, b); if (x1) { x2 = bgl_box_long(7); } else { x2 = bgl_box_bool(x1); } return bgl_p_display(x2);`
+abbrev pub chooses : ℕ → ℕ → Code
+chooses a b =
+    assign (local_name 1) (expr.Call (operation (Does Less) (number a ∷ number b ∷ [])))
+    (test (expr.Atom (atom.Name (local_name 1)))
+    (assign (local_name 2) (expr.Call (operation BoxLong (number 7 ∷ []))) done)
+    (assign (local_name 2) (expr.Call (operation BoxBool (x 1 ∷ []))) done)
+    (return (expr.Call (operation (Does Display) (x 2 ∷ []))) done))
+
+abbrev pub choice_locals : List CVar
+choice_locals = var Int 1 ∷ var Obj 2 ∷ []
+
+a_set_condition_takes_the_first_block : cm (go choice_locals (chooses 1 2) ∷ main ∷ []) [] [] 1 ≡ observation (codes "7") (Ended 0)
+unfolding cm decimal_text local_name function_name label_name
+a_set_condition_takes_the_first_block = refl
+
+zero_takes_the_second_block : cm (go choice_locals (chooses 2 2) ∷ main ∷ []) [] [] 1 ≡ observation (codes "#f") (Ended 0)
+unfolding cm decimal_text local_name function_name label_name
+zero_takes_the_second_block = refl
+
+-- `if (bgl_truth(atom)) { return bgl_p_newline(); } else { }` and then the next iteration
+abbrev pub asks : CArg → Code
+asks a = test (expr.Call (operation Truth (a ∷ []))) (return (expr.Call (operation (Does Newline) [])) done) done done
+
+all_but_false_is_true : cm (go [] (asks (arg.Atom atom.Nil)) ∷ main ∷ []) [] [] 2 ≡ observation (10 ∷ []) (Ended 0)
+unfolding cm decimal_text local_name function_name label_name
+all_but_false_is_true = refl
+
+false_is_false : cm (go [] (asks (arg.Atom atom.False)) ∷ main ∷ []) [] [] 2 ≡ observation [] Spent
+unfolding cm decimal_text local_name function_name label_name
+false_is_false = refl
+
+choice_is_checked : is_checked (go choice_locals (chooses 1 2) ∷ main ∷ []) ≡ true
+unfolding is_checked is_sound decimal_text local_name function_name label_name
+choice_is_checked = refl
+
+a_condition_that_is_no_int_is_not : is_checked (go (var Obj 1 ∷ var Obj 2 ∷ []) (test (expr.Atom (atom.Name (local_name 1))) done done done) ∷ main ∷ []) ≡ false
+unfolding is_checked is_sound decimal_text local_name function_name label_name
+a_condition_that_is_no_int_is_not = refl
+
+a_fault_in_a_block_is_found : is_checked (go [] (test (expr.Atom (atom.Int (pos 1))) done (assign (local_name 9) (expr.Atom atom.Nil) done) done) ∷ main ∷ []) ≡ false
+unfolding is_checked is_sound decimal_text local_name function_name label_name
+a_fault_in_a_block_is_found = refl

@@ -1,5 +1,5 @@
 -- The state of a run, frames, and how expressions and statements end.
-use Rattle.std.specs.Prelude.{ℕ, zero, suc, ◌==◌, List, ℤ, pos, if◌then◌else◌, slice_get, unwrap_or}
+use Rattle.std.specs.Prelude.{ℕ, zero, suc, ◌==◌, List, ℤ, pos, negsuc, if◌then◌else◌, slice_get, unwrap_or}
 use Rattle.base_io.specs.declared.end.FaultKind.{FaultKind}
 use Rattle.base_io.specs.declared.end.FaultKind.TheVariants.{Tag}
 use Rattle.c_tree.specs.declared.tree.CTy.{CTy}
@@ -65,6 +65,12 @@ with (Leaves x w s) f next = Escapes x w f s
 with (Stops c t s) f next = Raises c t s
 with (Ends s) f next = Spends s
 with (Faults k s) f next = Fails k s
+
+-- a branch by a condition, where 0 is false; a word is no condition
+abbrev pub chosen : Cell → State → Flow → Flow → Flow
+chosen (ANumber (pos n)) s a b = if n == 0 then b else a
+chosen (ANumber (negsuc n)) s a b = a
+chosen (AWord w) s a b = Fails Tag s
 
 abbrev pub after : Flow → (Frame → State → Flow) → Flow
 after (Next f s) next = next f s

@@ -16,6 +16,7 @@ mutual
   pub data Tree : Type 0 where
     Constant : Const → Tree
     Variable : VarId → Tree
+    If : Tree → Tree → Tree → Tree
     Sequence : Trees → Tree
     Call : GlobalRef → Trees → Tree
     Primitive : Builtin → Trees → Tree
@@ -32,6 +33,7 @@ trees (t ∷ ts) = more t (trees ts)
 abbrev pub layer : Node-F Tree → Tree
 layer (Node-F.Constant c) = Constant c
 layer (Node-F.Variable x) = Variable x
+layer (Node-F.If a b c) = If a b c
 layer (Node-F.Sequence ts) = Sequence (trees ts)
 layer (Node-F.Call g ts) = Call g (trees ts)
 layer (Node-F.Primitive p ts) = Primitive p (trees ts)

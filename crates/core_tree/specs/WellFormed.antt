@@ -6,9 +6,9 @@ use Rattle.scheme_data.specs.Fixnum.{IsFixnum}
 use Rattle.scheme_data.specs.Symbols.{IsName}
 use Rattle.prim_table.specs.declared.primitives.Ty.{Ty}
 use Rattle.prim_table.specs.Table.{params_of}
-use Rattle.core_tree.specs.declared.tree.Const.TheVariants.{Int}
+use Rattle.core_tree.specs.declared.tree.Const.TheVariants.{Int, Bool as Truth}
 use Rattle.core_tree.specs.declared.tree.VarId.{VarId}
-use Rattle.core_tree.specs.Tree.{Tree, Constant, Variable, Sequence, Call, Primitive, Trees, none, more, FunctionTree, ModuleTree, function_named, function_of}
+use Rattle.core_tree.specs.Tree.{Tree, Constant, Variable, If, Sequence, Call, Primitive, Trees, none, more, FunctionTree, ModuleTree, function_named, function_of}
 
 abbrev pub AsMany : List Ty → Trees → Type 0
 AsMany [] none = Unit {0}
@@ -24,11 +24,13 @@ Defined (Some f) = Unit {0}
 
 -- Inside a module with these functions, below these parameters.
 module _ (functions : List FunctionTree) (params : List VarId) where
-  -- constants are fixnums, variables are parameters, functions that are called are there, and primitives have as many arguments as parameters
+  -- numbers are fixnums, variables are parameters, functions that are called are there, and primitives have as many arguments as parameters
   abbrev mutual
     pub IsExpression : Tree → Type 0
     IsExpression (Constant (Int n)) = IsFixnum n
+    IsExpression (Constant (Truth b)) = Unit {0}
     IsExpression (Variable x) = IsTrue (list_any (same_variable x) params)
+    IsExpression (If a b c) = IsExpression a × IsExpression b × IsExpression c
     IsExpression (Sequence ts) = ⊥
     IsExpression (Call g ts) = Defined (function_of functions g) × AreExpressions ts
     IsExpression (Primitive p ts) = AsMany (params_of p) ts × AreExpressions ts
@@ -43,6 +45,7 @@ module _ (functions : List FunctionTree) (params : List VarId) where
   IsBody (Sequence (more t ts)) = AreExpressions (more t ts)
   IsBody (Constant c) = ⊥
   IsBody (Variable x) = ⊥
+  IsBody (If a b c) = ⊥
   IsBody (Call g ts) = ⊥
   IsBody (Primitive p ts) = ⊥
 

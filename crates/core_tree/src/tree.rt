@@ -1,6 +1,6 @@
 use prim_table::Primitive;
 use scheme_data::{List, Text};
-use sqlite_items::Items;
+use sqlite_items::{Boxed, Items};
 
 /// The number of a local variable in its module.
 #[derive(Clone, Copy, Debug, PartialEq, Eq)]
@@ -10,6 +10,7 @@ pub struct VarId(pub u32);
 #[derive(Clone, Copy, Debug, PartialEq, Eq)]
 pub enum Const {
     Int(i64),
+    Bool(bool),
 }
 
 /// A function that is called by its name.
@@ -19,11 +20,12 @@ pub enum GlobalRef {
     Own(u32),
 }
 
-/// An expression. A sequence has at least one part, and its value is that of the last.
+/// An expression. The parts of an `if` are its test, what is evaluated where the test isn't `#f`, and what is where it is. A sequence has at least one part, and its value is that of the last.
 #[derive(Drop)]
 pub enum Node {
     Constant(Const),
     Variable(VarId),
+    If(Boxed<Node>, Boxed<Node>, Boxed<Node>),
     Sequence(Items<Node>),
     Call(GlobalRef, Items<Node>),
     Primitive(Primitive, Items<Node>),

@@ -1,11 +1,11 @@
 -- Evaluation (R5RS section 4): operator and arguments left to right, and one turn for each call of a user procedure.
-use Rattle.std.specs.Prelude.{ℕ, zero, suc, List, [], ◌∷◌, length, Option, Some, None, if◌then◌else◌}
+use Rattle.std.specs.Prelude.{ℕ, zero, suc, List, [], ◌∷◌, length, Bool, true, Option, Some, None, if◌then◌else◌}
 use Rattle.core_tree.specs.declared.tree.Const.{Const}
-use Rattle.core_tree.specs.declared.tree.Const.TheVariants.{Int}
+use Rattle.core_tree.specs.declared.tree.Const.TheVariants.{Int, Bool as Truth}
 use Rattle.core_tree.specs.declared.tree.VarId.{VarId}
-use Rattle.core_tree.specs.Tree.{Tree, Constant, Variable, Sequence, Call, Primitive, Trees, none, more, FunctionTree, function_of}
+use Rattle.core_tree.specs.Tree.{Tree, Constant, Variable, If, Sequence, Call, Primitive, Trees, none, more, FunctionTree, function_of}
 use Rattle.core_tree.specs.WellFormed.{same_variable}
-use Rattle.meaning.specs.Value.{Value, Fixnum, Unspecified, State, Outcome, Gives, Spends, bind, take_turn}
+use Rattle.meaning.specs.Value.{Value, Fixnum, Boolean, Empty, Unspecified, State, Outcome, Gives, Spends, bind, take_turn}
 use Rattle.meaning.specs.Primitives.{primitive, counted}
 
 -- the variables in scope, newest first
@@ -41,6 +41,14 @@ called lower (Some f) vs s = apply lower f vs s
 
 abbrev pub constant : Const → Value
 constant (Int n) = Fixnum n
+constant (Truth b) = Boolean b
+
+-- only `#f` is false
+abbrev pub is_true : Value → Bool
+is_true (Boolean b) = b
+is_true (Fixnum n) = true
+is_true Empty = true
+is_true Unspecified = true
 
 -- The functions of the module, and what bodies do below.
 module _ (functions : List FunctionTree) (lower : Lower) where
@@ -48,6 +56,7 @@ module _ (functions : List FunctionTree) (lower : Lower) where
     pub ev : Tree → Environment → State → Outcome Value
     ev (Constant c) env s = Gives (constant c) s
     ev (Variable x) env s = valued (value_of x env) s
+    ev (If a b c) env s = bind (ev a env s) (λ v s1. if is_true v then ev b env s1 else ev c env s1)
     ev (Sequence ts) env s = ev_last ts Unspecified env s
     ev (Call g ts) env s = bind (evs ts env s) (λ vs s1. called lower (function_of functions g) vs s1)
     ev (Primitive p ts) env s = bind (evs ts env s) (λ vs s1. primitive p vs s1)

@@ -1,19 +1,24 @@
 -- What the primitives do: the number of arguments, then their types left to right, then the act (R5RS sections 6.2.5 and 6.6.3).
-use Rattle.std.specs.Prelude.{ℕ, List, [], ◌∷◌, ◌++◌, length, codes, nat_eq, ℤ, ◌+ℤ◌, Bool, true, false, if◌then◌else◌}
+use Rattle.std.specs.Prelude.{ℕ, List, [], ◌∷◌, ◌++◌, length, codes, nat_eq, ℤ, ◌+ℤ◌, int_lt, Bool, true, false, if◌then◌else◌}
 use Rattle.scheme_data.specs.Decimal.{decimal_text, number_text}
 use Rattle.scheme_data.specs.Fixnum.{is_fixnum}
 use Rattle.prim_table.specs.declared.primitives.Ty.{Ty}
-use Rattle.prim_table.specs.declared.primitives.Ty.TheVariants.{Obj, Long}
+use Rattle.prim_table.specs.declared.primitives.Ty.TheVariants.{Obj, Long, Bool as Truth}
 use Rattle.prim_table.specs.declared.primitives.Primitive.{Primitive}
-use Rattle.prim_table.specs.declared.primitives.Primitive.TheVariants.{Add, Display, Newline}
+use Rattle.prim_table.specs.declared.primitives.Primitive.TheVariants.{Add, Less, Display, Newline}
 use Rattle.prim_table.specs.Table.{name_of, params_of, type_name}
-use Rattle.meaning.specs.Value.{Value, Fixnum, Empty, Unspecified, State, Outcome, Gives, Raises, Spends}
+use Rattle.meaning.specs.Value.{Value, Fixnum, Boolean, Empty, Unspecified, State, Outcome, Gives, Raises, Spends}
 
 abbrev pub fits : Ty → Value → Bool
 fits Obj v = true
 fits Long (Fixnum n) = true
+fits Long (Boolean b) = false
 fits Long Empty = false
 fits Long Unspecified = false
+fits Truth (Fixnum n) = false
+fits Truth (Boolean b) = true
+fits Truth Empty = false
+fits Truth Unspecified = false
 
 -- error 2, whose text is the number wanted
 abbrev pub counted : {A : Type 0} → ℕ → ℕ → State → Outcome A → Outcome A
@@ -28,6 +33,8 @@ tested (t ∷ ts) [] s next = next
 -- how `display` prints a value
 abbrev pub printed : Value → List ℕ
 printed (Fixnum n) = number_text n
+printed (Boolean true) = codes "#t"
+printed (Boolean false) = codes "#f"
 printed Empty = codes "()"
 printed Unspecified = codes "#unspecified"
 
@@ -42,6 +49,11 @@ abbrev pub add : List Value → State → Outcome Value
 add (Fixnum a ∷ Fixnum b ∷ []) s = in_range (a +ℤ b) (name_of Add) s
 add _ s = Spends s
 
+-- the order of numbers
+abbrev pub less : List Value → State → Outcome Value
+less (Fixnum a ∷ Fixnum b ∷ []) s = Gives (Boolean (int_lt a b)) s
+less _ s = Spends s
+
 abbrev pub display : List Value → State → Outcome Value
 display (v ∷ []) s = Gives Unspecified (print (printed v) s)
 display _ s = Spends s
@@ -53,6 +65,7 @@ newline _ s = Spends s
 -- the act of a primitive on as many values of its types as it has parameters; on others it is never asked
 abbrev pub act : Primitive → List Value → State → Outcome Value
 act Add = add
+act Less = less
 act Display = display
 act Newline = newline
 

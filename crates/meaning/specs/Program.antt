@@ -4,7 +4,7 @@ use Rattle.base_io.specs.Observation.{Observation}
 use Rattle.base_io.specs.declared.end.End.TheVariants.{Ended, Raised, Spent}
 use Rattle.core_tree.specs.declared.tree.VarId.{VarId}
 use Rattle.core_tree.specs.Tree.{FunctionTree, ModuleTree, function_named}
-use Rattle.meaning.specs.Value.{Value, Fixnum, Empty, Unspecified, Object, Closure, State, Outcome, Gives, Escapes, Raises, Spends}
+use Rattle.meaning.specs.Value.{Value, Fixnum, Boolean, Empty, Unspecified, Object, Closure, State, Outcome, Gives, Escapes, Raises, Spends}
 use Rattle.meaning.specs.Evaluation.{called, run}
 
 abbrev pub small : ℕ → ℕ
@@ -14,6 +14,7 @@ small n = if nat_lt n 256 then n else 0
 abbrev pub status_of : Value → ℕ
 status_of (Fixnum (pos n)) = small n
 status_of (Fixnum (negsuc n)) = 0
+status_of (Boolean b) = 0
 status_of Empty = 0
 status_of Unspecified = 0
 

@@ -1,12 +1,12 @@
 -- Worked rows: what small modules print, and how they end.
-use Rattle.std.specs.Prelude.{◌≡◌, ℕ, List, [], ◌∷◌, ◌++◌, codes, pos, Some, refl}
+use Rattle.std.specs.Prelude.{◌≡◌, ℕ, List, [], ◌∷◌, ◌++◌, codes, pos, Bool, true, false, Some, refl}
 use Rattle.base_io.specs.declared.end.End.{End}
 use Rattle.base_io.specs.declared.end.End.TheVariants.{Ended, Raised, Spent}
-use Rattle.prim_table.specs.declared.primitives.Primitive.TheVariants.{Add, Display, Newline}
-use Rattle.core_tree.specs.declared.tree.Const.TheVariants.{Int}
+use Rattle.prim_table.specs.declared.primitives.Primitive.TheVariants.{Add, Less, Display, Newline}
+use Rattle.core_tree.specs.declared.tree.Const.TheVariants.{Int, Bool as Truth}
 use Rattle.core_tree.specs.declared.tree.VarId.{VarId}
 use Rattle.core_tree.specs.declared.tree.GlobalRef.TheVariants.{Own}
-use Rattle.core_tree.specs.Tree.{Tree, Constant, Variable, Sequence, Call, Primitive, Trees, none, more, FunctionTree, ModuleTree}
+use Rattle.core_tree.specs.Tree.{Tree, Constant, Variable, If, Sequence, Call, Primitive, Trees, none, more, FunctionTree, ModuleTree}
 use Rattle.scheme_data.specs.Decimal.{decimal_text}
 use Rattle.base_io.specs.Observation.{Observation}
 use Rattle.meaning.specs.Program.{src}
@@ -102,3 +102,45 @@ endless = calling (function (codes "f") [] (more (shown (int 7)) (more (call_of 
 a_call_for_ever_is_spent_exactly : src endless [] [] 5 ≡ observation (codes "7777") Spent
 unfolding src decimal_text
 a_call_for_ever_is_spent_exactly = refl
+
+-- Truth values and branches ------------------------------------------------------------------
+
+abbrev pub truth : Bool → Tree
+truth b = Constant (Truth b)
+
+abbrev pub less_than : Tree → Tree → Tree
+less_than a b = Primitive Less (more a (more b none))
+
+-- `(define (f n) (if (< n 3) (f (+ n 1)) n))` and `(display (f 0))`
+abbrev pub counts_to_three : ModuleTree
+counts_to_three =
+    calling (function (codes "f") (x 0 ∷ []) (more (If (less_than (variable 0) (int 3)) (call_of (more (sum_of (variable 0) (int 1)) none)) (variable 0)) none))
+    (more (shown (call_of (more (int 0) none))) none)
+
+a_count_takes_a_turn_a_call : src counts_to_three [] [] 5 ≡ observation (codes "3") (Ended 0)
+unfolding src decimal_text
+a_count_takes_a_turn_a_call = refl
+
+a_count_with_a_turn_less_is_spent : src counts_to_three [] [] 4 ≡ observation [] Spent
+unfolding src decimal_text
+a_count_with_a_turn_less_is_spent = refl
+
+truth_values_print_as_they_are_written : src (program (more (shown (truth true)) (more (shown (truth false)) none))) [] [] 1 ≡ observation (codes "#t#f") (Ended 0)
+unfolding src decimal_text
+truth_values_print_as_they_are_written = refl
+
+only_false_is_false : src (program (more (shown (If (int 0) (int 1) (int 2))) (more (shown (If line_end (int 1) (int 2))) (more (shown (If (truth false) (int 1) (int 2))) none)))) [] [] 1 ≡ observation (codes "1" ++ 10 ∷ codes "12") (Ended 0)
+unfolding src decimal_text
+only_false_is_false = refl
+
+a_truth_value_is_no_number : src (program (more (shown (sum_of (int 1) (truth true))) none)) [] [] 1 ≡ observation [] (Raised 1 (codes "long"))
+unfolding src decimal_text
+a_truth_value_is_no_number = refl
+
+numbers_are_ordered : src (program (more (shown (less_than (int 1) (int 2))) (more (shown (less_than (int 2) (int 2))) (more (shown (less_than (int 3) (int 2))) none)))) [] [] 1 ≡ observation (codes "#t#f#f") (Ended 0)
+unfolding src decimal_text
+numbers_are_ordered = refl
+
+both_are_evaluated_before_a_type_is_tested : src (program (more (less_than (truth true) (shown (int 7))) none)) [] [] 1 ≡ observation (codes "7") (Raised 1 (codes "long"))
+unfolding src decimal_text
+both_are_evaluated_before_a_type_is_tested = refl

@@ -1,8 +1,9 @@
 -- Values, the store, the state of an evaluation, and how it ends.
-use Rattle.std.specs.Prelude.{ℕ, zero, suc, ℤ, List, Option}
+use Rattle.std.specs.Prelude.{ℕ, zero, suc, ℤ, Bool, List, Option}
 
 pub data Value : Type 0 where
   Fixnum : ℤ → Value
+  Boolean : Bool → Value
   Empty : Value
   Unspecified : Value
 

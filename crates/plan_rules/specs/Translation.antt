@@ -1,28 +1,28 @@
 -- The relation between a module and a unit. Which locals are temporaries, and their names, are free.
 -- A node is related to the code and the code after it.
-use Rattle.std.specs.Prelude.{◌≡◌, ◌⊎◌, ℕ, List, [], ◌∷◌, ◌++◌, map, IsTrue, length, nat_eq, Bool, true, false, Option, Some, None}
+use Rattle.std.specs.Prelude.{◌≡◌, ◌⊎◌, ℕ, List, [], ◌∷◌, ◌++◌, map, pos, IsTrue, length, nat_eq, Bool, true, false, Option, Some, None}
 use Rattle.prim_table.specs.declared.primitives.Ty.{Ty}
 use Rattle.prim_table.specs.declared.primitives.Ty.TheVariants as ty
 use Rattle.prim_table.specs.Table.{params_of, result_of}
-use Rattle.core_tree.specs.declared.tree.Const.TheVariants.{Int}
 use Rattle.core_tree.specs.declared.tree.VarId.{VarId}
-use Rattle.core_tree.specs.Tree.{Tree, Constant, Variable, Sequence, Call, Primitive, Trees, none, more, count, FunctionTree, ModuleTree, function_of}
-use Rattle.c_tree.specs.declared.op.Op.TheVariants.{BoxLong, Primitive as Does}
+use Rattle.core_tree.specs.Tree.{Tree, Constant, Variable, If, Sequence, Call, Primitive, Trees, none, more, count, FunctionTree, ModuleTree, function_of}
+use Rattle.c_tree.specs.declared.op.Op.TheVariants.{BoxLong, BoxBool, Primitive as Does}
 use Rattle.c_tree.specs.declared.tree.CTy.{CTy}
 use Rattle.c_tree.specs.declared.tree.CTy.TheVariants as c_ty
 use Rattle.c_tree.specs.declared.tree.CArg.{CArg}
+use Rattle.c_tree.specs.declared.op.Op.{Op}
 use Rattle.c_tree.specs.declared.tree.CAtom.TheVariants as atom
 use Rattle.c_tree.specs.declared.tree.CCall.{CCall}
 use Rattle.c_tree.specs.declared.tree.CExpr.{CExpr}
 use Rattle.c_tree.specs.declared.tree.CExpr.TheVariants as expr
 use Rattle.c_tree.specs.declared.tree.CVar.{CVar}
-use Rattle.c_tree.specs.Code.{Code, done, assign, call, return, loop, Fun, Item, declared, defined}
+use Rattle.c_tree.specs.Code.{Code, done, assign, call, return, test, loop, Fun, Item, declared, defined}
 use Rattle.c_tree.specs.Names.{function_name}
 use Rattle.c_tree.specs.Spelling.{NamedItems}
 use Rattle.c_meaning.specs.Checked.{is_typed, variable_named, variables_of, is_sound}
 use Rattle.plan_rules.specs.declared.rep.Rep.{Rep}
-use Rattle.plan_rules.specs.declared.rep.Rep.TheVariants.{Obj, Long}
-use Rattle.plan_rules.specs.Representation.{Slot, PlainAt, Scope, slot_of, rep_of, c_type_of, has_of, operation, raise_count, call_of, local, fixnum_expr, Step, Keep, Make, step}
+use Rattle.plan_rules.specs.declared.rep.Rep.TheVariants.{Obj, Long, Bool as Truth_rep}
+use Rattle.plan_rules.specs.Representation.{Slot, PlainAt, Scope, slot_of, rep_of, c_type_of, has_of, operation, raise_count, raise_type, call_of, local, constant_expr, condition, Step, Keep, Make, Refuse, Unbuilt, step}
 
 abbrev pub Name : Type 0
 Name = List ℕ
@@ -57,31 +57,44 @@ module _ (vars : List CVar) where
   abbrev pub IsLocal : Name → CTy → Type 0
   IsLocal y t = IsTrue (is_typed t (variable_named vars y))
 
-  -- a value that comes as a number, and is wanted as a word
-  pub record Boxed (given : Statements) (live : List Name) (place : Place) (code rest : Code) : Type 0 where
+  -- a value that comes as a number of a C type, and is wanted as a word
+  pub record Boxed (o : Op) (t : CTy) (given : Statements) (live : List Name) (place : Place) (code rest : Code) : Type 0 where
     pub temporary : Name
     pub middle : Code
     pub fresh : Fresh temporary live
-    pub is_local : IsLocal temporary c_ty.Long
+    pub is_local : IsLocal temporary t
     pub value : given (into temporary) code middle
-    pub box : middle ≡ deliver place (expr.Call (operation BoxLong (local temporary ∷ []))) rest
+    pub box : middle ≡ deliver place (expr.Call (operation o (local temporary ∷ []))) rest
 
   -- a value that comes in one representation, delivered in another
   abbrev pub Coerced : Rep → Rep → Statements → List Name → Place → Code → Code → Type 0
   Coerced Obj Obj given live place code rest = given place code rest
-  Coerced Long Long given live place code rest = given place code rest
-  Coerced Long Obj given live place code rest = Boxed given live place code rest
   Coerced Obj Long given live place code rest = ⊥
+  Coerced Obj Truth_rep given live place code rest = ⊥
+  Coerced Long Obj given live place code rest = Boxed BoxLong c_ty.Long given live place code rest
+  Coerced Long Long given live place code rest = given place code rest
+  Coerced Long Truth_rep given live place code rest = ⊥
+  Coerced Truth_rep Obj given live place code rest = Boxed BoxBool c_ty.Int given live place code rest
+  Coerced Truth_rep Long given live place code rest = ⊥
+  Coerced Truth_rep Truth_rep given live place code rest = given place code rest
 
   -- one argument is made to fit: the name of its value, and what stays live
-  pub record Made (o : _) (live : List Name) (temporary : Name) (t : CTy) (code : Code) (made : Name) (rest : Code) : Type 0 where
+  pub record Made (o : Op) (live : List Name) (temporary : Name) (t : CTy) (code : Code) (made : Name) (rest : Code) : Type 0 where
     pub fresh : Fresh made live
     pub is_local : IsLocal made t
     pub is : code ≡ assign made (expr.Call (operation o (local temporary ∷ []))) rest
 
+  -- one argument is of a wrong type, whatever its value is
+  pub record Refused (t : Ty) (live : List Name) (code : Code) (made : Name) (rest : Code) : Type 0 where
+    pub fresh : Fresh made live
+    pub is_local : IsLocal made (c_type_of (rep_of t))
+    pub is : code ≡ call (raise_type t) (assign made (expr.Atom (atom.Int (pos 0))) rest)
+
   abbrev pub Fits : Ty → Step → List Name → Name → Code → Name → Code → Type 0
   Fits t Keep live temporary code made rest = (code ≡ rest) × (made ≡ temporary)
   Fits t (Make o) live temporary code made rest = Made o live temporary (c_type_of (rep_of t)) code made rest
+  Fits t Refuse live temporary code made rest = Refused t live code made rest
+  Fits t Unbuilt live temporary code made rest = ⊥
 
   pub record FirstFits (one : Name → Code → Type 0) (others : Name → List Name → Code → Type 0) (made : List Name) : Type 0 where
     pub first : Name
@@ -123,6 +136,19 @@ module _ (vars : List CVar) where
     pub one : first middle
     pub all : others middle
 
+  -- the test to a temporary, and by it one of two blocks
+  pub record Branches (has : Rep) (value : Statements) (live : List Name) (one other : Code → Type 0) (code rest : Code) : Type 0 where
+    pub temporary : Name
+    pub middle : Code
+    pub first : Code
+    pub second : Code
+    pub fresh : Fresh temporary live
+    pub is_local : IsLocal temporary (c_type_of has)
+    pub given : value (into temporary) code middle
+    pub is : middle ≡ test (condition has temporary) first second rest
+    pub taken : one first
+    pub else_taken : other second
+
   -- arguments whose number is wrong are evaluated, and then error 2 is raised
   pub record Miscounted (arguments : List Name → Code → Code → Type 0) (want : ℕ) (code rest : Code) : Type 0 where
     pub temporaries : List Name
@@ -156,6 +182,11 @@ module _ (module_name : Name) (functions : List FunctionTree) (scope : Scope) (v
   TrVariableUnused None code rest = ⊥
   TrVariableUnused (Some slot) code rest = code ≡ rest
 
+  -- a constant goes to a place in a representation that it may have
+  abbrev pub TrConstant : Option CExpr → Statements
+  TrConstant None place code rest = ⊥
+  TrConstant (Some e) place code rest = code ≡ deliver place e rest
+
   -- a call of a function of the module, where the number of arguments is right or not; `finish` does the call and what comes after
   abbrev pub TrCounted : Bool → FunctionTree → (List Name → Code → Code → Type 0) → Trees → List Name → (CCall → Code) → Code → Code → Type 0
   TrCounted true f arguments ns live finish code rest = Applied vars arguments (objects ns) (haves scope (objects ns) ns) live (λ args. finish (call_of (function_name module_name f.name) args)) code
@@ -168,8 +199,13 @@ module _ (module_name : Name) (functions : List FunctionTree) (scope : Scope) (v
   unfoldable mutual
     -- the node's value, in a representation, goes to a place
     pub Tr : Tree → Rep → List Name → Statements
-    Tr (Constant (Int n)) h live place code rest = code ≡ deliver place (fixnum_expr h n) rest
+    Tr (Constant c) h live place code rest = TrConstant (constant_expr c h) place code rest
     Tr (Variable x) h live place code rest = TrVariable (slot_of x scope) h place code rest
+    Tr (If a b c) h live place code rest =
+        (h ≡ Obj)
+        × Branches vars (has_of scope a Truth_rep) (λ place code rest. Tr a (has_of scope a Truth_rep) live place code rest) live
+        (λ code. Coerced vars (has_of scope b Obj) Obj (λ place code rest. Tr b (has_of scope b Obj) live place code rest) live place code done)
+        (λ code. Coerced vars (has_of scope c Obj) Obj (λ place code rest. Tr c (has_of scope c Obj) live place code rest) live place code done) code rest
     Tr (Sequence ts) h live place code rest = TrLast ts h live place code rest
     Tr (Call g ns) h live place code rest =
         (h ≡ Obj)
@@ -182,6 +218,9 @@ module _ (module_name : Name) (functions : List FunctionTree) (scope : Scope) (v
     pub TrUnused : Tree → List Name → Code → Code → Type 0
     TrUnused (Constant c) live code rest = code ≡ rest
     TrUnused (Variable x) live code rest = TrVariableUnused (slot_of x scope) code rest
+    TrUnused (If a b c) live code rest =
+        Branches vars (has_of scope a Truth_rep) (λ place code rest. Tr a (has_of scope a Truth_rep) live place code rest) live
+        (λ code. TrUnused b live code done) (λ code. TrUnused c live code done) code rest
     TrUnused (Sequence ts) live code rest = TrAllUnused ts live code rest
     TrUnused (Call g ns) live code rest =
         TrCall (function_of functions g) (λ temporaries code middle. TrArguments (objects ns) ns live temporaries code middle) ns live (λ c. call c rest) code rest

@@ -7,12 +7,14 @@ ghost use Rattle.prim_table.specs.Table.{prim_named};
 pub enum Ty {
     Obj,
     Long,
+    Bool,
 }
 
 /// A primitive.
 #[derive(Clone, Copy, Debug, PartialEq, Eq)]
 pub enum Primitive {
     Add,
+    Less,
     Display,
     Newline,
 }
@@ -30,6 +32,9 @@ pub fn prim_by_name(name: &[u8]) -> Option<Primitive>
 {
     if is_named(name, b"+") {
         return Some(Primitive::Add);
+    }
+    if is_named(name, b"<") {
+        return Some(Primitive::Less);
     }
     if is_named(name, b"display") {
         return Some(Primitive::Display);
