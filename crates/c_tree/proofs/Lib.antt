@@ -1,1 +1,6 @@
+pub mod Backwards
+pub mod Forwards
+pub mod Left
 pub mod NameShapes
+pub mod Ranges
+pub mod Spelled

@@ -1,5 +1,10 @@
 pub mod Code
+pub mod Functions
+pub mod Layout
 pub mod Lexical
 pub mod Names
 pub mod Operations
+pub mod Pieces
+pub mod Rows
 pub mod Spelling
+pub mod Steps

@@ -16,7 +16,9 @@ use Rattle.c_tree.specs.declared.tree.CExpr.TheVariants as expr
 use Rattle.c_tree.specs.declared.tree.CVar.{CVar}
 use Rattle.c_tree.specs.declared.tree.Token.{Token}
 use Rattle.c_tree.specs.declared.tree.Token.TheVariants.{Word, Mark, Str}
-use Rattle.c_tree.specs.Code.{Code, done, assign, call, return, loop, Item, declared, defined}
+use Rattle.c_tree.specs.declared.pieces.Piece.{Piece}
+use Rattle.c_tree.specs.declared.pieces.Piece.TheVariants as piece
+use Rattle.c_tree.specs.Code.{Code, done, assign, call, return, test, loop, Item, declared, defined}
 use Rattle.c_tree.specs.Operations.{op_text}
 use Rattle.c_tree.specs.Names.{is_function_name, is_local_name, is_label_name}
 use Rattle.c_tree.specs.Lexical.{tokens}
@@ -67,6 +69,8 @@ code_tokens done rest = rest
 code_tokens (assign x e next) rest = Word x ∷ Mark 61 ∷ expr_tokens e (Mark 59 ∷ code_tokens next rest)
 code_tokens (call c next) rest = call_tokens c (Mark 59 ∷ code_tokens next rest)
 code_tokens (return e next) rest = Word (codes "return") ∷ expr_tokens e (Mark 59 ∷ code_tokens next rest)
+code_tokens (test e a b next) rest =
+    Word (codes "if") ∷ Mark 40 ∷ expr_tokens e (Mark 41 ∷ Mark 123 ∷ code_tokens a (Mark 125 ∷ Word (codes "else") ∷ Mark 123 ∷ code_tokens b (Mark 125 ∷ code_tokens next rest)))
 code_tokens (loop l body next) rest =
     Word l ∷ Mark 58 ∷ Word (codes "for") ∷ Mark 40 ∷ Mark 59 ∷ Mark 59 ∷ Mark 41 ∷ Mark 123 ∷ code_tokens body (Mark 125 ∷ code_tokens next rest)
 
@@ -131,15 +135,39 @@ NamedCode done = Unit {0}
 NamedCode (assign x e next) = IsTrue (is_local_name x) × NamedExpr e × NamedCode next
 NamedCode (call c next) = NamedCall c × NamedCode next
 NamedCode (return e next) = NamedExpr e × NamedCode next
-NamedCode (loop l body next) = ⊥
+NamedCode (test e a b next) = NamedExpr e × NamedCode a × NamedCode b × NamedCode next
+NamedCode (loop l body next) = IsTrue (is_label_name l) × NamedCode body × NamedCode next
 
--- today a `for` stands only as the whole of a function's statements
-abbrev pub NamedBody : Code → Type 0
-NamedBody (loop l body next) = IsTrue (is_label_name l) × NamedCode body × (next ≡ done)
-NamedBody done = Unit {0}
-NamedBody (assign x e next) = NamedCode (assign x e next)
-NamedBody (call c next) = NamedCode (call c next)
-NamedBody (return e next) = NamedCode (return e next)
+-- Pieces -----------------------------------------------------------------------------------
+
+abbrev pub piece_tokens : Piece → List Token → List Token
+piece_tokens (piece.Assign x e) rest = Word x ∷ Mark 61 ∷ expr_tokens e (Mark 59 ∷ rest)
+piece_tokens (piece.Call c) rest = call_tokens c (Mark 59 ∷ rest)
+piece_tokens (piece.Return e) rest = Word (codes "return") ∷ expr_tokens e (Mark 59 ∷ rest)
+piece_tokens (piece.If e) rest = Word (codes "if") ∷ Mark 40 ∷ expr_tokens e (Mark 41 ∷ Mark 123 ∷ rest)
+piece_tokens piece.Else rest = Mark 125 ∷ Word (codes "else") ∷ Mark 123 ∷ rest
+piece_tokens (piece.Loop l) rest = Word l ∷ Mark 58 ∷ Word (codes "for") ∷ Mark 40 ∷ Mark 59 ∷ Mark 59 ∷ Mark 41 ∷ Mark 123 ∷ rest
+piece_tokens piece.End rest = Mark 125 ∷ rest
+
+-- the tokens of a block's statements are those of its pieces
+abbrev pub pieces_tokens : List Piece → List Token → List Token
+pieces_tokens [] rest = rest
+pieces_tokens (p ∷ ps) rest = piece_tokens p (pieces_tokens ps rest)
+
+abbrev pub NamedPiece : Piece → Type 0
+NamedPiece (piece.Assign x e) = IsTrue (is_local_name x) × NamedExpr e
+NamedPiece (piece.Call c) = NamedCall c
+NamedPiece (piece.Return e) = NamedExpr e
+NamedPiece (piece.If e) = NamedExpr e
+NamedPiece piece.Else = Unit {0}
+NamedPiece (piece.Loop l) = IsTrue (is_label_name l)
+NamedPiece piece.End = Unit {0}
+
+abbrev pub NamedPieces : List Piece → Type 0
+NamedPieces [] = Unit {0}
+NamedPieces (p ∷ ps) = NamedPiece p × NamedPieces ps
+
+-- Items ------------------------------------------------------------------------------------
 
 abbrev pub NamedVars : List CVar → Type 0
 NamedVars [] = Unit {0}
@@ -147,7 +175,7 @@ NamedVars (v ∷ vs) = IsTrue (is_local_name v.name) × NamedVars vs
 
 abbrev pub NamedItem : Item → Type 0
 NamedItem (declared t name params) = IsTrue (is_function_name name)
-NamedItem (defined f) = IsTrue (is_function_name f.name) × NamedVars f.params × NamedVars f.locals × NamedBody f.code
+NamedItem (defined f) = IsTrue (is_function_name f.name) × NamedVars f.params × NamedVars f.locals × NamedCode f.code
 
 abbrev pub NamedItems : List Item → Type 0
 NamedItems [] = Unit {0}

@@ -1,19 +1,28 @@
 //! The trees of the C subset.
 #![tactic(auto)]
 
+mod building;
+mod closing;
+mod function;
+mod laying;
 mod name_tests;
 mod name_texts;
 mod names;
 mod op;
+mod order;
+mod pieces;
 mod tree;
+mod walk;
 
+pub use function::{CFun, CItem, CProgram, CUnit};
+pub use laying::Layout;
 pub use name_tests::{names_function, names_label, names_local, names_main};
 pub use name_texts::{function_name_text, label_name_text, local_name_text};
 pub use names::NameState;
 pub use op::{Op, op_by_name, op_name};
-pub use tree::{
-    CArg, CAtom, CBody, CCall, CExpr, CFun, CItem, CProgram, CStmt, CTy, CUnit, CVar, Callee, Token,
-};
+pub use order::{lay_out, pieces_in};
+pub use pieces::{Piece, PieceRef};
+pub use tree::{CArg, CAtom, CBlock, CCall, CExpr, CStmt, CTy, CVar, Callee, Token};
 
 #[cfg(test)]
 mod tests;

@@ -8,7 +8,9 @@ use prim_table::Primitive;
 #[derive(Clone, Copy, Debug, PartialEq, Eq)]
 pub enum Op {
     BoxLong,
+    BoxBool,
     UnboxLong,
+    Truth,
     Raise,
     Args,
     Status,
@@ -21,11 +23,14 @@ pub fn op_name(op: Op) -> &'static [u8]
 {
     match op {
         Op::BoxLong => b"bgl_box_long",
+        Op::BoxBool => b"bgl_box_bool",
         Op::UnboxLong => b"bgl_unbox_long",
+        Op::Truth => b"bgl_truth",
         Op::Raise => b"bgl_raise",
         Op::Args => b"bgl_args",
         Op::Status => b"bgl_status",
         Op::Primitive(Primitive::Add) => b"bgl_p__2b",
+        Op::Primitive(Primitive::Less) => b"bgl_p__3c",
         Op::Primitive(Primitive::Display) => b"bgl_p_display",
         Op::Primitive(Primitive::Newline) => b"bgl_p_newline",
     }
@@ -45,8 +50,14 @@ pub fn op_by_name(name: &[u8]) -> Option<Op>
     if is_named(name, b"bgl_box_long") {
         return Some(Op::BoxLong);
     }
+    if is_named(name, b"bgl_box_bool") {
+        return Some(Op::BoxBool);
+    }
     if is_named(name, b"bgl_unbox_long") {
         return Some(Op::UnboxLong);
+    }
+    if is_named(name, b"bgl_truth") {
+        return Some(Op::Truth);
     }
     if is_named(name, b"bgl_raise") {
         return Some(Op::Raise);
@@ -59,6 +70,9 @@ pub fn op_by_name(name: &[u8]) -> Option<Op>
     }
     if is_named(name, b"bgl_p__2b") {
         return Some(Op::Primitive(Primitive::Add));
+    }
+    if is_named(name, b"bgl_p__3c") {
+        return Some(Op::Primitive(Primitive::Less));
     }
     if is_named(name, b"bgl_p_display") {
         return Some(Op::Primitive(Primitive::Display));

@@ -50,19 +50,21 @@ pub enum CExpr {
     Call(CCall),
 }
 
-/// A statement.
+/// A range of places in a list of statements, of which the end is the first that is no part of it.
+#[derive(Clone, Copy, Debug, PartialEq, Eq)]
+pub struct CBlock {
+    pub first: u64,
+    pub end: u64,
+}
+
+/// A statement. Blocks are ranges in the list in which the statement stands.
 #[derive(Drop, Debug)]
 pub enum CStmt {
     Assign(Text, CExpr),
     Call(CCall),
     Return(CExpr),
-}
-
-/// The statements of a function: a list, or one labelled `for` around a list.
-#[derive(Drop, Debug)]
-pub enum CBody {
-    Straight(List<CStmt>),
-    Looped(Text, List<CStmt>),
+    If(CExpr, CBlock, CBlock),
+    Loop(Text, CBlock),
 }
 
 /// A variable with its type.
@@ -70,35 +72,6 @@ pub enum CBody {
 pub struct CVar {
     pub ty: CTy,
     pub name: Text,
-}
-
-/// A definition of a function.
-#[derive(Drop, Debug)]
-pub struct CFun {
-    pub result: CTy,
-    pub name: Text,
-    pub params: List<CVar>,
-    pub locals: List<CVar>,
-    pub body: CBody,
-}
-
-/// A declaration or a definition of a function.
-#[derive(Drop, Debug)]
-pub enum CItem {
-    Declared(CTy, Text, List<CTy>),
-    Defined(CFun),
-}
-
-/// The C text of one module.
-#[derive(Drop, Debug)]
-pub struct CUnit {
-    pub items: List<CItem>,
-}
-
-/// A linked C text.
-#[derive(Drop, Debug)]
-pub struct CProgram {
-    pub items: List<CItem>,
 }
 
 /// A token of a C text: a run of letters, digits and `_`, a mark of one byte, the bytes that a string stands for, or a byte that begins no token.

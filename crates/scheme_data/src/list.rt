@@ -1,7 +1,7 @@
-ghost use Rattle.std.specs.Prelude.{◌≡◌, [], ◌∷◌, ◌++◌, length, OnOk, OnErr, slice_get};
+ghost use Rattle.std.specs.Prelude.{◌≡◌, [], ◌∷◌, ◌++◌, length, reverse, OnOk, OnErr, slice_get};
 ghost use Rattle.std.specs.Option.{option_copied};
 
-use crate::{OutOfMemory, Text};
+use crate::{OutOfMemory, Stack, Text};
 use std::alloc::Global;
 use std::marker::Model;
 
@@ -36,6 +36,19 @@ impl<T> List<T> {
         List {
             items: Vec::new(alloc),
         }
+    }
+
+    pub(crate) fn of(items: Vec<T>) -> List<T>
+        ensures { result ≡ items.items }
+    {
+        List { items }
+    }
+
+    /// The items as a stack, the last of them on top. It takes no memory.
+    pub fn into_stack(self) -> Stack<T>
+        ensures { result ≡ reverse self }
+    {
+        Stack::of(self.items)
     }
 
     /// How many items it has.

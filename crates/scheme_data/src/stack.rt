@@ -1,6 +1,6 @@
-ghost use Rattle.std.specs.Prelude.{◌≡◌, [], ◌∷◌, length, slice_get, Some, MatchOption, OnOk, OnErr, ◌↔◌, IsTrue};
+ghost use Rattle.std.specs.Prelude.{◌≡◌, [], ◌∷◌, length, reverse, slice_get, Some, MatchOption, OnOk, OnErr, ◌↔◌, IsTrue};
 
-use crate::OutOfMemory;
+use crate::{List, OutOfMemory};
 use std::alloc::Global;
 use std::marker::Model;
 
@@ -29,6 +29,21 @@ impl<T> Stack<T> {
         Stack {
             items: Vec::new(alloc),
         }
+    }
+
+    pub(crate) fn of(items: Vec<T>) -> Stack<T>
+        ensures { result ≡ reverse items.items }
+    {
+        Stack { items }
+    }
+
+    /// The items as a list, the newest first. It takes no memory.
+    pub fn into_list(self) -> List<T>
+        ensures { result ≡ self }
+    {
+        let mut items = self.items;
+        items.reverse();
+        List::of(items)
     }
 
     /// How many items it has.
