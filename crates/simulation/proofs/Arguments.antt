@@ -58,7 +58,7 @@ module _ (vars : List CVar) (p : List Fun) (lower : Lower) where
   abbrev pub Settles : Sink → Rep → Code → Base → Outcome Value → Flow → Type 0
   Settles sink r rest b o flow = Ended vars (λ v s x. Settled sink r rest b v s x) b o flow
 
-  settled_on : (sink : Sink) (r : Rep) (rest : Code) (b d : Base) (v : Value) (s : State) (flow : Flow) → ((x : Name) → In x b.live → In x d.live) → Moved vars b d.world d.state d.frame → Settled sink r rest d v s flow → Settled sink r rest b v s flow
+  pub settled_on : (sink : Sink) (r : Rep) (rest : Code) (b d : Base) (v : Value) (s : State) (flow : Flow) → ((x : Name) → In x b.live → In x d.live) → Moved vars b d.world d.state d.frame → Settled sink r rest d v s flow → Settled sink r rest b v s flow
   settled_on (at_place place) r rest b d v s flow sub m h = arrived_on vars p lower place r rest b d v s flow sub m h
   settled_on nowhere r rest b d v s flow sub m h = reached_on vars p lower b d rest (λ world f. Unit {0}) s flow sub m h
 

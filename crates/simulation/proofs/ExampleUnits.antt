@@ -2,13 +2,13 @@
 use Rattle.std.proofs.Common.{◌≡◌, ℕ, List, [], ◌∷◌, ◌++◌, Bool, true, false, Some, refl, sym, ap, ◌∙◌, inl, inr}
 use Rattle.std.specs.Prelude.{codes, pos, if◌then◌else◌}
 use Rattle.prim_table.specs.declared.primitives.Ty.TheVariants as ty
-use Rattle.prim_table.specs.declared.primitives.Primitive.TheVariants.{Add, Display, Newline}
-use Rattle.core_tree.specs.declared.tree.Const.TheVariants.{Int}
+use Rattle.prim_table.specs.declared.primitives.Primitive.TheVariants.{Add, Less, Display, Newline}
+use Rattle.core_tree.specs.declared.tree.Const.TheVariants.{Int, Bool as Truth}
 use Rattle.core_tree.specs.declared.tree.GlobalRef.TheVariants.{Own}
 use Rattle.core_tree.specs.declared.tree.VarId.{VarId}
 use Rattle.core_tree.specs.Tree.{Tree, Constant, Variable, Sequence, Call, Primitive, Trees, none, more, FunctionTree, ModuleTree}
 use Rattle.c_tree.specs.declared.op.Op.{Op}
-use Rattle.c_tree.specs.declared.op.Op.TheVariants.{BoxLong, Primitive as Does}
+use Rattle.c_tree.specs.declared.op.Op.TheVariants.{BoxLong, BoxBool, Primitive as Does}
 use Rattle.c_tree.specs.declared.tree.CTy.{CTy}
 use Rattle.c_tree.specs.declared.tree.CTy.TheVariants.{Obj}
 use Rattle.c_tree.specs.declared.tree.CArg.{CArg}
@@ -47,8 +47,14 @@ fresh x (y ∷ ys) e (inr i) = fresh x ys (go (is_same x y) e) i
 abbrev pub int : ℕ → Tree
 int n = Constant (Int (pos n))
 
+abbrev pub truth : Bool → Tree
+truth b = Constant (Truth b)
+
 abbrev pub sum_of : Tree → Tree → Tree
 sum_of a b = Primitive Add (more a (more b none))
+
+abbrev pub less_of : Tree → Tree → Tree
+less_of a b = Primitive Less (more a (more b none))
 
 abbrev pub shown : Tree → Tree
 shown t = Primitive Display (more t none)
@@ -86,8 +92,14 @@ var t x = record { ty = t; name = x }
 abbrev pub plus : Name → Name → CExpr
 plus a b = calls (Does Add) (local a ∷ local b ∷ [])
 
+abbrev pub is_less : Name → Name → CExpr
+is_less a b = calls (Does Less) (local a ∷ local b ∷ [])
+
 abbrev pub boxed : Name → CExpr
 boxed x = calls BoxLong (local x ∷ [])
+
+abbrev pub boxed_truth : Name → CExpr
+boxed_truth x = calls BoxBool (local x ∷ [])
 
 abbrev pub a_number : ℕ → CExpr
 a_number n = expr.Atom (atom.Int (pos n))

@@ -4,25 +4,26 @@ use Rattle.std.specs.Prelude.{nat_eq, if◌then◌else◌}
 use Rattle.prim_table.specs.declared.primitives.Ty.{Ty}
 use Rattle.prim_table.specs.declared.primitives.Ty.TheVariants as ty
 use Rattle.prim_table.specs.Table.{type_name}
-use Rattle.meaning.specs.Value.{Value, Fixnum, Empty, Unspecified, State, Outcome}
+use Rattle.meaning.specs.Value.{Value, Fixnum, Boolean, Empty, Unspecified, State, Outcome}
 use Rattle.meaning.specs.Value as src
 use Rattle.meaning.specs.Primitives.{fits, tested}
 use Rattle.c_tree.specs.declared.op.Op.{Op}
-use Rattle.c_tree.specs.declared.op.Op.TheVariants.{BoxLong, UnboxLong}
+use Rattle.c_tree.specs.declared.op.Op.TheVariants.{BoxLong, BoxBool, UnboxLong}
 use Rattle.c_tree.specs.declared.tree.CVar.{CVar}
 use Rattle.c_tree.specs.Code.{Code, Fun}
-use Rattle.c_meaning.specs.Word.{Word, Nil, Unspec}
+use Rattle.c_meaning.specs.Word.{Word, True, False, Nil, Unspec}
 use Rattle.c_meaning.specs.Word as word
 use Rattle.c_meaning.specs.State.{Cell, AWord, ANumber, Frame, State as CState, put, Answer, with}
 use Rattle.c_meaning.specs.State as c
 use Rattle.c_meaning.specs.Operations.{ACell, operate}
 use Rattle.c_meaning.specs.Execution.{Lower, position_of, exec}
 use Rattle.plan_rules.specs.declared.rep.Rep.{Rep}
-use Rattle.plan_rules.specs.declared.rep.Rep.TheVariants.{Obj, Long}
+use Rattle.plan_rules.specs.declared.rep.Rep.TheVariants.{Obj, Long, Bool as Truth_rep}
 use Rattle.plan_rules.specs.Representation.{rep_of, c_type_of, step}
-use Rattle.plan_rules.specs.Translation.{Name, Fits, Made, AllFit}
+use Rattle.plan_rules.specs.Translation.{Name, Fits, Made, Refused, AllFit}
 use Rattle.simulation.proofs.Frames.{names, Kept, kept_same, kept_on, kept_put, put_here, Target, Within, nothing, also, within_more}
 use Rattle.simulation.proofs.Worlds.{World, WordOf, IsRep, rep_moves, rep_grows, Grows, grows_same}
+use Rattle.simulation.proofs.Boxes.{Boxes, long_boxes, truth_boxes}
 
 -- values in locals
 pub data AllRep (vars : List CVar) (world : World) (f : Frame) : List Rep → List Value → List Name → Type 0 where
@@ -70,17 +71,35 @@ module _ (vars : List CVar) (p : List Fun) (lower : Lower) (world : World) (t : 
   unboxed : (live : List Name) (f : Frame) (v : Value) (code : Code) (temporary made : Name) (rest : Code) (w : Word) → Made vars UnboxLong live temporary (c_type_of Long) code made rest → f (position_of temporary (names vars)) ≡ AWord w → WordOf world v w → OneDone live f ty.Long v code made rest
   unboxed live f (Fixnum n) code temporary made rest w h is means =
       made_so UnboxLong live f ty.Long (Fixnum n) code temporary made rest (AWord (word.Fixnum n)) (ANumber n) h refl (is ∙ ap AWord means) refl (record { n = n; value = refl; is = refl })
+  unboxed live f (Boolean true) code temporary made rest w h is means =
+      refused_so UnboxLong live f ty.Long (Boolean true) code temporary made rest (AWord True) h refl (is ∙ ap AWord means) refl
+  unboxed live f (Boolean false) code temporary made rest w h is means =
+      refused_so UnboxLong live f ty.Long (Boolean false) code temporary made rest (AWord False) h refl (is ∙ ap AWord means) refl
   unboxed live f Empty code temporary made rest w h is means =
       refused_so UnboxLong live f ty.Long Empty code temporary made rest (AWord Nil) h refl (is ∙ ap AWord means) refl
   unboxed live f Unspecified code temporary made rest w h is means =
       refused_so UnboxLong live f ty.Long Unspecified code temporary made rest (AWord Unspec) h refl (is ∙ ap AWord means) refl
 
+  boxed : (o : Op) (live : List Name) (f : Frame) (v : Value) (code : Code) (temporary made : Name) (rest : Code) → Made vars o live temporary (c_type_of Obj) code made rest → Boxes o world v (f (position_of temporary (names vars))) t → OneDone live f ty.Obj v code made rest
+  boxed o live f v code temporary made rest h box =
+      made_so o live f ty.Obj v code temporary made rest (f (position_of temporary (names vars))) (AWord box.w) h refl refl box.is (record { w = box.w; is = refl; means = box.means })
+
+  -- no value of the representation is of the type
+  never_fits : (live : List Name) (f : Frame) (type : Ty) (v : Value) (code : Code) (made : Name) (rest : Code) → Refused vars type live code made rest → fits type v ≡ false → OneDone live f type v code made rest
+  never_fits live f type v code made rest h bad = refused bad (ap (λ x. runs x f) h.is)
+
   one_done : (type : Ty) (r : Rep) (live : List Name) (f : Frame) (v : Value) (temporary : Name) (code : Code) (made : Name) (rest : Code) → Fits vars type (step type r) live temporary code made rest → IsRep world r v (f (position_of temporary (names vars))) → OneDone live f type v code made rest
   one_done ty.Obj Obj live f v temporary code made rest h here = as_it_is live f ty.Obj v code temporary made rest h.0 h.1 refl here
   one_done ty.Obj Long live f v temporary code made rest h here =
-      made_so BoxLong live f ty.Obj v code temporary made rest (ANumber here.n) (AWord (word.Fixnum here.n)) h refl here.is refl (record { w = word.Fixnum here.n; is = refl; means = subst (λ x. WordOf world x (word.Fixnum here.n)) (sym here.value) refl })
+      boxed BoxLong live f v code temporary made rest h (long_boxes world v (f (position_of temporary (names vars))) t here)
+  one_done ty.Obj Truth_rep live f v temporary code made rest h here =
+      boxed BoxBool live f v code temporary made rest h (truth_boxes world v (f (position_of temporary (names vars))) t here)
   one_done ty.Long Obj live f v temporary code made rest h here = unboxed live f v code temporary made rest here.w h here.is here.means
   one_done ty.Long Long live f v temporary code made rest h here = as_it_is live f ty.Long v code temporary made rest h.0 h.1 (ap (λ x. fits ty.Long x) here.value) here
+  one_done ty.Long Truth_rep live f v temporary code made rest h here = never_fits live f ty.Long v code made rest h (ap (λ x. fits ty.Long x) here.value)
+  one_done ty.Bool Obj live f v temporary code made rest h here = absurd h
+  one_done ty.Bool Long live f v temporary code made rest h here = never_fits live f ty.Bool v code made rest h (ap (λ x. fits ty.Bool x) here.value)
+  one_done ty.Bool Truth_rep live f v temporary code made rest h here = as_it_is live f ty.Bool v code temporary made rest h.0 h.1 (ap (λ x. fits ty.Bool x) here.value) here
 
   -- all of them
   pub data AllDone (live : List Name) (f : Frame) (ts : List Ty) (vs : List Value) (code : Code) (made : List Name) (rest : Code) : Type 0 where

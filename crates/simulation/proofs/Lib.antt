@@ -1,4 +1,7 @@
 pub mod Arguments
+pub mod Boxes
+pub mod BranchExamples
+pub mod Branches
 pub mod CallExamples
 pub mod Callees
 pub mod Calls

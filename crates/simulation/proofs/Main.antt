@@ -1,5 +1,5 @@
 -- The linked program does what its module does.
-use Rattle.std.proofs.Common.{◌≡◌, ℕ, zero, suc, List, [], ◌∷◌, ◌++◌, length, Option, Some, None, true, refl, sym, ap, ◌∙◌, arith}
+use Rattle.std.proofs.Common.{◌≡◌, ℕ, zero, suc, List, [], ◌∷◌, ◌++◌, length, Option, Some, None, true, false, refl, sym, ap, ◌∙◌, arith}
 use Rattle.std.specs.Prelude.{slice_get, find, nat_eq, pos, negsuc, if◌then◌else◌}
 use Rattle.std.proofs.lemmas.Bool.{and_parts}
 use Rattle.scheme_data.specs.Decimal.{decimal_text}
@@ -10,7 +10,7 @@ use Rattle.core_tree.specs.declared.tree.GlobalRef.{GlobalRef}
 use Rattle.core_tree.specs.declared.tree.GlobalRef.TheVariants.{Own}
 use Rattle.core_tree.specs.declared.tree.VarId.{VarId}
 use Rattle.core_tree.specs.Tree.{FunctionTree, ModuleTree, function_of, is_called}
-use Rattle.meaning.specs.Value.{Value, Fixnum, Empty, Unspecified, Object, State, Outcome, take_turn}
+use Rattle.meaning.specs.Value.{Value, Fixnum, Boolean, Empty, Unspecified, Object, State, Outcome, take_turn}
 use Rattle.meaning.specs.Value as source
 use Rattle.meaning.specs.Primitives.{counted}
 use Rattle.meaning.specs.Evaluation.{bound}
@@ -64,6 +64,8 @@ main_runs p n input turns = refl
 status_alike : (world : World) (v : Value) (w : Word) → WordOf world v w → status_in w ≡ status_of v
 status_alike world (Fixnum (pos n)) w h = ap status_in h
 status_alike world (Fixnum (negsuc n)) w h = ap status_in h
+status_alike world (Boolean true) w h = ap status_in h
+status_alike world (Boolean false) w h = ap status_in h
 status_alike world Empty w h = ap status_in h
 status_alike world Unspecified w h = ap status_in h
 

@@ -2,30 +2,33 @@
 use Rattle.std.proofs.Common.{◌≡◌, ℕ, List, [], ◌∷◌, refl, sym, ap, ◌∙◌, subst, inr}
 use Rattle.prim_table.specs.declared.primitives.Ty.{Ty}
 use Rattle.prim_table.specs.Table.{params_of, result_of}
-use Rattle.core_tree.specs.declared.tree.Const.TheVariants.{Int}
-use Rattle.core_tree.specs.Tree.{Tree, Constant, Variable, Sequence, Call, Primitive, Trees, none, more, FunctionTree, function_of}
-use Rattle.meaning.specs.Value.{Value, Fixnum, Unspecified, State, Outcome, bind}
+use Rattle.core_tree.specs.Tree.{Tree, Constant, Variable, If, Sequence, Call, Primitive, Trees, none, more, FunctionTree, function_of}
+use Rattle.meaning.specs.Value.{Value, Unspecified, State, Outcome, bind}
 use Rattle.meaning.specs.Value as src
 use Rattle.meaning.specs.Primitives.{primitive}
 use Rattle.meaning.specs.Evaluation.{Environment, Lower, ev, ev_last, evs}
-use Rattle.c_tree.specs.declared.op.Op.TheVariants.{BoxLong}
+use Rattle.c_tree.specs.declared.op.Op.{Op}
+use Rattle.c_tree.specs.declared.op.Op.TheVariants.{BoxLong, BoxBool}
+use Rattle.c_tree.specs.declared.tree.CTy.{CTy}
 use Rattle.c_tree.specs.declared.tree.CExpr.TheVariants as expr
 use Rattle.c_tree.specs.declared.tree.CTy.TheVariants as c_ty
 use Rattle.c_tree.specs.declared.tree.CVar.{CVar}
-use Rattle.c_tree.specs.Code.{Code, Fun}
-use Rattle.c_meaning.specs.State.{Frame, State as CState, Flow}
+use Rattle.c_tree.specs.Code.{Code, done, Fun}
+use Rattle.c_meaning.specs.State.{Cell, Frame, State as CState, Flow}
 use Rattle.c_meaning.specs.Execution.{Lower as CLower, exec}
 use Rattle.plan_rules.specs.declared.rep.Rep.{Rep}
-use Rattle.plan_rules.specs.declared.rep.Rep.TheVariants.{Obj, Long}
-use Rattle.plan_rules.specs.Representation.{Scope, slot_of, rep_of, has_of, operation, local, fixnum_expr}
-use Rattle.plan_rules.specs.Translation.{Name, In, Place, into, Statements, Coerced, haves, objects, Tr, TrUnused, TrAllUnused, TrLast, TrArguments}
+use Rattle.plan_rules.specs.declared.rep.Rep.TheVariants.{Obj, Long, Bool as Truth_rep}
+use Rattle.plan_rules.specs.Representation.{Scope, slot_of, rep_of, has_of, operation, local}
+use Rattle.plan_rules.specs.Translation.{Name, In, Place, into, Statements, Boxed, Coerced, haves, objects, Tr, TrUnused, TrAllUnused, TrLast, TrArguments}
 use Rattle.simulation.proofs.Frames.{names, Target, Free}
-use Rattle.simulation.proofs.Worlds.{World, Same}
+use Rattle.simulation.proofs.Worlds.{World, IsRep, Same}
+use Rattle.simulation.proofs.Boxes.{Boxes, long_boxes, truth_boxes}
 use Rattle.simulation.proofs.Ends.{Base, Moved, moved_same, bind_ends, gives_on, onwards, Ended, Reached, reached_on, Arrived, arrived_on, At, Passes, Passed, delivered}
 use Rattle.simulation.proofs.Fits.{AllRep, no_values}
 use Rattle.simulation.proofs.Scopes.{Ready, ready_on}
-use Rattle.simulation.proofs.Variables.{fixnum_answers, boxed_answers, variable_ends, variable_unused}
+use Rattle.simulation.proofs.Variables.{constant_ends, boxed_answers, variable_ends, variable_unused}
 use Rattle.simulation.proofs.Arguments.{from, at_place, nowhere, primitive_work, Evaluated, applied, evaluated_first}
+use Rattle.simulation.proofs.Branches.{BlockDoes, branches_end}
 use Rattle.simulation.proofs.Callees.{CallsDo, call_ends}
 
 bind_gives : {A : Type 0} (o : Outcome A) → bind o (λ a s. src.Gives a s) ≡ o
@@ -42,21 +45,34 @@ module _ (vars : List CVar) (p : List Fun) (lower : CLower) where
   abbrev runs : Code → Frame → CState → Flow
   runs code f t = exec p lower (names vars) code f t
 
-  -- a value that comes in one representation, and is wanted in another
-  coerced : (has wanted : Rep) (given : Statements) (place : Place) (rest : Code) (b : Base) (code : Code) (o : Outcome Value) (t : CState) → Coerced vars has wanted given b.live place code rest → Free vars b.live place → ((pl : Place) (cd rs : Code) → given pl cd rs → Free vars b.live pl → At vars p lower pl has rs b o (runs cd b.frame t)) → At vars p lower place wanted rest b o (runs code b.frame t)
-  coerced Obj Obj given place rest b code o t h free go = go place code rest h free
-  coerced Long Long given place rest b code o t h free go = go place code rest h free
-  coerced Obj Long given place rest b code o t h free go = absurd h
-  coerced Long Obj given place rest b code o t h free go =
-      let target : Target vars b.live h.temporary = record { fresh = h.fresh; type = c_ty.Long; is_local = h.is_local } in
-      gives_on vars (λ v s flow. Arrived vars p lower (into h.temporary) Long h.middle b v s flow) (λ v s flow. Arrived vars p lower place Obj rest b v s flow) b o (runs code b.frame t)
+  -- what a node's statements do at any place
+  abbrev Gives : Statements → Rep → Base → Outcome Value → CState → Type 0
+  Gives given has b o t = (place : Place) (code rest : Code) → given place code rest → Free vars b.live place → At vars p lower place has rest b o (runs code b.frame t)
+
+  -- a value that comes as a number is boxed
+  boxed : (o : Op) (ty : CTy) (has : Rep) → ((world : World) (v : Value) (cell : Cell) (t : CState) → IsRep world has v cell → Boxes o world v cell t) → (given : Statements) (place : Place) (rest : Code) (b : Base) (code : Code) (out : Outcome Value) (t : CState) → Boxed vars o ty given b.live place code rest → Free vars b.live place → Gives given has b out t → At vars p lower place Obj rest b out (runs code b.frame t)
+  boxed o ty has boxes given place rest b code out t h free go =
+      let target : Target vars b.live h.temporary = record { fresh = h.fresh; type = ty; is_local = h.is_local } in
+      gives_on vars (λ v s flow. Arrived vars p lower (into h.temporary) has h.middle b v s flow) (λ v s flow. Arrived vars p lower place Obj rest b v s flow) b out (runs code b.frame t)
       (go (into h.temporary) code h.middle h.value target)
       (λ v s r.
       let d = from b.live r.g r.later s in
-      let box = expr.Call (operation BoxLong (local h.temporary ∷ [])) in
+      let box = expr.Call (operation o (local h.temporary ∷ [])) in
       let e = r.is ∙ ap (λ x. runs x r.g r.t) h.box in
       onwards vars (λ v1 s1 flow. Arrived vars p lower place Obj rest d v1 s1 flow) (λ v1 s1 flow. Arrived vars p lower place Obj rest b v1 s1 flow) b d (src.Gives v s) (runs code b.frame t) _ e (λ x i. i) r.moved (λ v1 s1 a. arrived_on vars p lower place Obj rest b d v1 s1 _ (λ x i. i) r.moved a)
-      (delivered vars p lower place Obj rest d (src.Gives v s) box r.t free (boxed_answers vars p lower h.temporary v r.later r.g s r.t r.here r.same)))
+      (delivered vars p lower place Obj rest d (src.Gives v s) box r.t free (boxed_answers vars p lower o h.temporary v r.later r.g s r.t (boxes r.later v _ r.t r.here) r.same)))
+
+  -- a value that comes in one representation, and is wanted in another
+  coerced : (has wanted : Rep) (given : Statements) (place : Place) (rest : Code) (b : Base) (code : Code) (o : Outcome Value) (t : CState) → Coerced vars has wanted given b.live place code rest → Free vars b.live place → Gives given has b o t → At vars p lower place wanted rest b o (runs code b.frame t)
+  coerced Obj Obj given place rest b code o t h free go = go place code rest h free
+  coerced Obj Long given place rest b code o t h free go = absurd h
+  coerced Obj Truth_rep given place rest b code o t h free go = absurd h
+  coerced Long Obj given place rest b code o t h free go = boxed BoxLong c_ty.Long Long long_boxes given place rest b code o t h free go
+  coerced Long Long given place rest b code o t h free go = go place code rest h free
+  coerced Long Truth_rep given place rest b code o t h free go = absurd h
+  coerced Truth_rep Obj given place rest b code o t h free go = boxed BoxBool c_ty.Int Truth_rep truth_boxes given place rest b code o t h free go
+  coerced Truth_rep Long given place rest b code o t h free go = absurd h
+  coerced Truth_rep Truth_rep given place rest b code o t h free go = go place code rest h free
 
   -- a part whose value nobody takes, and what follows it
   sequel : {A B : Type 0} (good : Base → B → State → Flow → Type 0) (middle : Code) (b : Base) (o : Outcome A) (k : A → State → Outcome B) (flow : Flow) → ((d : Base) → d.live ≡ b.live → Moved vars b d.world d.state d.frame → (a : B) (s : State) (x : Flow) → good d a s x → good b a s x) → ((f : Frame) (later : World) (s : State) (t : CState) (a : A) → Moved vars b later s f → Same later s t → Ended vars (good (from b.live f later s)) (from b.live f later s) (k a s) (runs middle f t)) → Passed vars p lower middle b o flow → Ended vars (good b) b (bind o k) flow
@@ -67,14 +83,29 @@ module _ (vars : List CVar) (p : List Fun) (lower : CLower) where
       onwards vars (good d) (good b) b d (k a s) flow _ r.is (λ x i. i) r.moved (λ a1 s1 x. on d refl r.moved a1 s1 _ x) (go r.g r.later s r.t a r.moved r.same))
 
   module _ (m : Name) (functions : List FunctionTree) (scope : Scope) (lo : Lower) (limit : ℕ) (calls : CallsDo p lower m functions lo limit) where
+    -- a block that gives its value as a word
+    abbrev AsWord : Tree → List Name → Place → Code → Type 0
+    AsWord n live place code = Coerced vars (has_of scope n Obj) Obj (λ pl cd rs. Tr m functions scope vars n (has_of scope n Obj) live pl cd rs) live place code done
+
+    block_does : (n : Tree) (b : Base) (place : Place) (env : Environment) (t : CState) → Free vars b.live place → Ready vars scope env limit b t → ((d : Base) (t1 : CState) → Ready vars scope env limit d t1 → Gives (λ pl cd rs. Tr m functions scope vars n (has_of scope n Obj) d.live pl cd rs) (has_of scope n Obj) d (ev functions lo n env d.state) t1) → BlockDoes vars p lower (at_place place) Obj b (AsWord n b.live place) (λ s. ev functions lo n env s)
+    block_does n b place env t free ready go f later s t1 code moved same block =
+        let d = from b.live f later s in
+        coerced (has_of scope n Obj) Obj (λ pl cd rs. Tr m functions scope vars n (has_of scope n Obj) b.live pl cd rs) place done d code (ev functions lo n env s) t1 block free
+        (go d t1 (ready_on vars scope env limit b d t t1 ready (λ x i. i) moved same))
+
     mutual
       unfolding Tr TrUnused TrAllUnused TrLast TrArguments
 
       pub sim : (n : Tree) (h : Rep) (b : Base) (place : Place) (code rest : Code) (env : Environment) (t : CState) → Tr m functions scope vars n h b.live place code rest → Free vars b.live place → Ready vars scope env limit b t → At vars p lower place h rest b (ev functions lo n env b.state) (runs code b.frame t)
-      sim (Constant (Int n)) h b place code rest env t is free ready =
-          subst (λ x. At vars p lower place h rest b (src.Gives (Fixnum n) b.state) (runs x b.frame t)) (sym is)
-          (delivered vars p lower place h rest b (src.Gives (Fixnum n) b.state) (fixnum_expr h n) t free (fixnum_answers vars p lower h b.world n b.frame b.state t ready.same))
+      sim (Constant k) h b place code rest env t is free ready = constant_ends vars p lower m functions scope env limit k h b place code rest t is free ready.same
       sim (Variable x) h b place code rest env t is free ready = variable_ends vars p lower m functions scope env limit x (slot_of x scope) refl h b place code rest t is free ready
+      sim (If test one other) h b place code rest env t is free ready =
+          let has = has_of scope test Truth_rep in
+          subst (λ z. At vars p lower place z rest b (ev functions lo (If test one other) env b.state) (runs code b.frame t)) (sym is.0)
+          (branches_end vars p lower (at_place place) Obj has rest (λ pl cd rs. Tr m functions scope vars test has b.live pl cd rs) (AsWord one b.live place) (AsWord other b.live place) b code (ev functions lo test env b.state) (λ s. ev functions lo one env s) (λ s. ev functions lo other env s) t is.1
+          (λ target. sim test has b (into is.1.temporary) code is.1.middle env t is.1.given target ready)
+          (block_does one b place env t free ready (λ d t1 ready1 pl cd rs tr free1. sim one (has_of scope one Obj) d pl cd rs env t1 tr free1 ready1))
+          (block_does other b place env t free ready (λ d t1 ready1 pl cd rs tr free1. sim other (has_of scope other Obj) d pl cd rs env t1 tr free1 ready1)))
       sim (Sequence ts) h b place code rest env t is free ready = sim_last ts h b place code rest Unspecified env t is free ready
       sim (Call g ns) h b place code rest env t is free ready =
           subst (λ z. At vars p lower place z rest b (ev functions lo (Call g ns) env b.state) (runs code b.frame t)) (sym is.0)
@@ -88,9 +119,15 @@ module _ (vars : List CVar) (p : List Fun) (lower : CLower) where
           (sim_arguments ns (params_of q) b is.1.temporaries code is.1.middle env t is.1.values ready))
 
       sim_unused : (n : Tree) (b : Base) (code rest : Code) (env : Environment) (t : CState) → TrUnused m functions scope vars n b.live code rest → Ready vars scope env limit b t → Passed vars p lower rest b (ev functions lo n env b.state) (runs code b.frame t)
-      sim_unused (Constant (Int n)) b code rest env t is ready =
+      sim_unused (Constant k) b code rest env t is ready =
           record { later = b.world; g = b.frame; t = t; is = ap (λ x. runs x b.frame t) is; here = tt; moved = moved_same vars b; same = ready.same }
       sim_unused (Variable x) b code rest env t is ready = variable_unused vars p lower m functions scope env limit x (slot_of x scope) refl b code rest t is ready
+      sim_unused (If test one other) b code rest env t is ready =
+          let has = has_of scope test Truth_rep in
+          branches_end vars p lower nowhere Obj has rest (λ pl cd rs. Tr m functions scope vars test has b.live pl cd rs) (λ cd. TrUnused m functions scope vars one b.live cd done) (λ cd. TrUnused m functions scope vars other b.live cd done) b code (ev functions lo test env b.state) (λ s. ev functions lo one env s) (λ s. ev functions lo other env s) t is
+          (λ target. sim test has b (into is.temporary) code is.middle env t is.given target ready)
+          (λ f later s t1 cd moved same block. sim_unused one (from b.live f later s) cd done env t1 block (ready_on vars scope env limit b (from b.live f later s) t t1 ready (λ x i. i) moved same))
+          (λ f later s t1 cd moved same block. sim_unused other (from b.live f later s) cd done env t1 block (ready_on vars scope env limit b (from b.live f later s) t t1 ready (λ x i. i) moved same))
       sim_unused (Sequence ts) b code rest env t is ready = sim_all_unused ts b code rest Unspecified env t is ready
       sim_unused (Call g ns) b code rest env t is ready =
           call_ends m functions scope vars p lower lo limit calls g (function_of functions g) refl (λ temporaries cd middle. TrArguments m functions scope vars (objects ns) ns b.live temporaries cd middle) ns nowhere rest code b (evs functions lo ns env b.state) t ready.turns tt is

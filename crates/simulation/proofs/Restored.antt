@@ -1,7 +1,7 @@
 -- The world of a call: what the callee sees of its caller's, and the caller's after it.
 use Rattle.std.proofs.Common.{◌≡◌, ℕ, zero, suc, List, [], ◌∷◌, length, Option, Some, None, refl, ap, ◌∙◌}
 use Rattle.std.specs.Prelude.{slice_get}
-use Rattle.meaning.specs.Value.{Value, Fixnum, Empty, Unspecified, Object, Closure, State}
+use Rattle.meaning.specs.Value.{Value, Fixnum, Boolean, Empty, Unspecified, Object, Closure, State}
 use Rattle.c_meaning.specs.Word.{Word}
 use Rattle.c_meaning.specs.State.{Cell, Block, State as CState}
 use Rattle.simulation.proofs.Worlds.{Role, AtBlock, Mine, Away, World, WordOf, ObjCell, Words, no_words, a_word, Grows, grows_same, hidden, hide, Alike, GlobalOf, Globals, no_globals, global, Same}
@@ -75,6 +75,7 @@ restore_length (r ∷ world) (q ∷ later) g = ap suc (restore_length world late
 
 pub word_blocks : (v : Value) (w : Word) (world later : World) → Blocks world later → WordOf world v w → WordOf later v w
 word_blocks (Fixnum n) w world later b h = h
+word_blocks (Boolean x) w world later b h = h
 word_blocks Empty w world later b h = h
 word_blocks Unspecified w world later b h = h
 

@@ -1,64 +1,63 @@
 -- Constants and variables have their values where they go.
-use Rattle.std.proofs.Common.{◌≡◌, ℕ, List, [], ◌∷◌, Option, Some, None, refl, sym, ap, subst}
-use Rattle.std.specs.Prelude.{ℤ}
+use Rattle.std.proofs.Common.{◌≡◌, ℕ, List, [], ◌∷◌, true, false, Option, Some, None, refl, sym, ap, subst}
+use Rattle.std.specs.Prelude.{pos}
+use Rattle.core_tree.specs.declared.tree.Const.{Const}
+use Rattle.core_tree.specs.declared.tree.Const.TheVariants.{Int, Bool as Truth}
 use Rattle.core_tree.specs.declared.tree.VarId.{VarId}
 use Rattle.core_tree.specs.Tree.{FunctionTree}
-use Rattle.meaning.specs.Value.{Value, Fixnum, State}
+use Rattle.meaning.specs.Value.{Value, Fixnum, Boolean, State}
 use Rattle.meaning.specs.Value as src
-use Rattle.meaning.specs.Evaluation.{Environment, valued, value_of}
-use Rattle.c_tree.specs.declared.op.Op.TheVariants.{BoxLong}
+use Rattle.meaning.specs.Evaluation.{Environment, valued, value_of, constant}
+use Rattle.c_tree.specs.declared.op.Op.{Op}
 use Rattle.c_tree.specs.declared.tree.CAtom.TheVariants as atom
+use Rattle.c_tree.specs.declared.tree.CExpr.{CExpr}
 use Rattle.c_tree.specs.declared.tree.CExpr.TheVariants as expr
 use Rattle.c_tree.specs.declared.tree.CVar.{CVar}
 use Rattle.c_tree.specs.Code.{Code, Fun}
 use Rattle.c_meaning.specs.Word as word
-use Rattle.c_meaning.specs.State.{AWord, ANumber, Frame, State as CState}
-use Rattle.c_meaning.specs.Operations.{ACell, operate}
+use Rattle.c_meaning.specs.State.{Cell, AWord, ANumber, Frame, State as CState}
+use Rattle.c_meaning.specs.State as c
 use Rattle.c_meaning.specs.Execution.{Lower, position_of, eval, exec}
 use Rattle.plan_rules.specs.declared.rep.Rep.{Rep}
-use Rattle.plan_rules.specs.declared.rep.Rep.TheVariants.{Obj, Long}
-use Rattle.plan_rules.specs.Representation.{Slot, PlainAt, Scope, slot_of, operation, local, fixnum_expr}
-use Rattle.plan_rules.specs.Translation.{Name, Place, TrVariable, TrVariableUnused}
+use Rattle.plan_rules.specs.declared.rep.Rep.TheVariants.{Obj, Long, Bool as Truth_rep}
+use Rattle.plan_rules.specs.Representation.{Slot, PlainAt, Scope, slot_of, operation, local, constant_expr}
+use Rattle.plan_rules.specs.Translation.{Name, Place, deliver, TrConstant, TrVariable, TrVariableUnused}
 use Rattle.simulation.proofs.Frames.{names, Free}
-use Rattle.simulation.proofs.Worlds.{World, WordOf, IsRep, LongCell, grows_same, frozen_same, hide, Same}
+use Rattle.simulation.proofs.Worlds.{World, IsRep, grows_same, frozen_same, hide, Same}
+use Rattle.simulation.proofs.Boxes.{Boxes}
 use Rattle.simulation.proofs.Ends.{Base, moved_same, Answers, At, Passed, delivered}
 use Rattle.simulation.proofs.Scopes.{InSlot, stands, Ready}
 
 module _ (vars : List CVar) (p : List Fun) (lower : Lower) where
-  -- a fixnum in its representation
-  pub fixnum_answers : (r : Rep) (world : World) (n : ℤ) (f : Frame) (s : State) (t : CState) → Same world s t → Answers world s r (Fixnum n) s (eval p lower (names vars) (fixnum_expr r n) f t)
-  fixnum_answers Obj world n f s t same =
-      record { later = world; cell = AWord (word.Fixnum n); t = t; is = refl; here = record { w = word.Fixnum n; is = refl; means = refl }; grows = grows_same world; frozen = frozen_same (hide world) s; same = same }
-  fixnum_answers Long world n f s t same =
-      record { later = world; cell = ANumber n; t = t; is = refl; here = record { n = n; value = refl; is = refl }; grows = grows_same world; frozen = frozen_same (hide world) s; same = same }
+  -- an expression that changes nothing is delivered
+  plain : (r : Rep) (b : Base) (place : Place) (e : CExpr) (code rest : Code) (v : Value) (cell : Cell) (t : CState) → code ≡ deliver place e rest → eval p lower (names vars) e b.frame t ≡ c.Has cell t → IsRep b.world r v cell → Free vars b.live place → Same b.world b.state t → At vars p lower place r rest b (src.Gives v b.state) (exec p lower (names vars) code b.frame t)
+  plain r b place e code rest v cell t is gives here free same =
+      subst (λ x. At vars p lower place r rest b (src.Gives v b.state) (exec p lower (names vars) x b.frame t)) (sym is)
+      (delivered vars p lower place r rest b (src.Gives v b.state) e t free
+      (record { later = b.world; cell = cell; t = t; is = gives; here = here; grows = grows_same b.world; frozen = frozen_same (hide b.world) b.state; same = same }))
 
   -- a number in a local is boxed
-  pub boxed_answers : (x : Name) (v : Value) (world : World) (f : Frame) (s : State) (t : CState) → LongCell v (f (position_of x (names vars))) → Same world s t → Answers world s Obj v s (eval p lower (names vars) (expr.Call (operation BoxLong (local x ∷ []))) f t)
-  boxed_answers x v world f s t h same =
-      record {
-        later = world;
-        cell = AWord (word.Fixnum h.n);
-        t = t;
-        is = ap (λ k. operate BoxLong (ACell k ∷ []) t) h.is;
-        here = record { w = word.Fixnum h.n; is = refl; means = subst (λ u. WordOf world u (word.Fixnum h.n)) (sym h.value) refl };
-        grows = grows_same world;
-        frozen = frozen_same (hide world) s;
-        same = same;
-      }
-
-  -- a local is read
-  local_answers : (r : Rep) (y : Name) (v : Value) (world : World) (f : Frame) (s : State) (t : CState) → IsRep world r v (f (position_of y (names vars))) → Same world s t → Answers world s r v s (eval p lower (names vars) (expr.Atom (atom.Name y)) f t)
-  local_answers r y v world f s t here same =
-      record { later = world; cell = f (position_of y (names vars)); t = t; is = refl; here = here; grows = grows_same world; frozen = frozen_same (hide world) s; same = same }
+  pub boxed_answers : (o : Op) (x : Name) (v : Value) (world : World) (f : Frame) (s : State) (t : CState) → Boxes o world v (f (position_of x (names vars))) t → Same world s t → Answers world s Obj v s (eval p lower (names vars) (expr.Call (operation o (local x ∷ []))) f t)
+  boxed_answers o x v world f s t h same =
+      record { later = world; cell = AWord h.w; t = t; is = h.is; here = record { w = h.w; is = refl; means = h.means }; grows = grows_same world; frozen = frozen_same (hide world) s; same = same }
 
   module _ (m : Name) (functions : List FunctionTree) (scope : Scope) (env : Environment) (limit : ℕ) where
+    pub constant_ends : (k : Const) (h : Rep) (b : Base) (place : Place) (code rest : Code) (t : CState) → TrConstant m functions scope vars (constant_expr k h) place code rest → Free vars b.live place → Same b.world b.state t → At vars p lower place h rest b (src.Gives (constant k) b.state) (exec p lower (names vars) code b.frame t)
+    constant_ends (Int n) Obj b place code rest t is free same =
+        plain Obj b place _ code rest (Fixnum n) (AWord (word.Fixnum n)) t is refl (record { w = word.Fixnum n; is = refl; means = refl }) free same
+    constant_ends (Int n) Long b place code rest t is free same = plain Long b place _ code rest (Fixnum n) (ANumber n) t is refl (record { n = n; value = refl; is = refl }) free same
+    constant_ends (Int n) Truth_rep b place code rest t is free same = absurd is
+    constant_ends (Truth true) Obj b place code rest t is free same = plain Obj b place _ code rest (Boolean true) (AWord word.True) t is refl (record { w = word.True; is = refl; means = refl }) free same
+    constant_ends (Truth false) Obj b place code rest t is free same = plain Obj b place _ code rest (Boolean false) (AWord word.False) t is refl (record { w = word.False; is = refl; means = refl }) free same
+    constant_ends (Truth k) Long b place code rest t is free same = absurd is
+    constant_ends (Truth true) Truth_rep b place code rest t is free same = plain Truth_rep b place _ code rest (Boolean true) (ANumber (pos 1)) t is refl (record { b = true; value = refl; is = refl }) free same
+    constant_ends (Truth false) Truth_rep b place code rest t is free same = plain Truth_rep b place _ code rest (Boolean false) (ANumber (pos 0)) t is refl (record { b = false; value = refl; is = refl }) free same
+
     -- a value in its slot
     slot_ends : (slot : Slot) (h : Rep) (b : Base) (place : Place) (code rest : Code) (v : Value) (t : CState) → InSlot vars b.world b.frame b.live slot v → TrVariable m functions scope vars (Some slot) h place code rest → Free vars b.live place → Same b.world b.state t → At vars p lower place h rest b (src.Gives v b.state) (exec p lower (names vars) code b.frame t)
     slot_ends (PlainAt r y) h b place code rest v t at is free same =
-        let e = expr.Atom (atom.Name y) in
         subst (λ z. At vars p lower place z rest b (src.Gives v b.state) (exec p lower (names vars) code b.frame t)) (sym is.0)
-        (subst (λ x. At vars p lower place r rest b (src.Gives v b.state) (exec p lower (names vars) x b.frame t)) (sym is.1)
-        (delivered vars p lower place r rest b (src.Gives v b.state) e t free (local_answers r y v b.world b.frame b.state t at.here same)))
+        (plain r b place (expr.Atom (atom.Name y)) code rest v (b.frame (position_of y (names vars))) t is.1 refl at.here free same)
 
     pub variable_ends : (x : VarId) (found : Option Slot) → slot_of x scope ≡ found → (h : Rep) (b : Base) (place : Place) (code rest : Code) (t : CState) → TrVariable m functions scope vars found h place code rest → Free vars b.live place → Ready vars scope env limit b t → At vars p lower place h rest b (valued (value_of x env) b.state) (exec p lower (names vars) code b.frame t)
     variable_ends x None e h b place code rest t is free ready = absurd is

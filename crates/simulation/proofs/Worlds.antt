@@ -1,12 +1,13 @@
 -- What a state of the source and a state of the C text have in common.
-use Rattle.std.proofs.Common.{◌≡◌, ℕ, zero, suc, ◌≤◌, List, [], ◌∷◌, length, Option, Some, None, refl, sym, ap, ◌∙◌, subst, arith}
+use Rattle.std.proofs.Common.{◌≡◌, ℕ, zero, suc, ◌≤◌, List, [], ◌∷◌, length, Bool, Option, Some, None, refl, sym, ap, ◌∙◌, subst, arith}
 use Rattle.std.specs.Prelude.{slice_get, map, ℤ}
-use Rattle.meaning.specs.Value.{Value, Fixnum, Empty, Unspecified, Object, Closure, State}
+use Rattle.meaning.specs.Value.{Value, Fixnum, Boolean, Empty, Unspecified, Object, Closure, State}
 use Rattle.c_meaning.specs.Word.{Word, Nil, Unspec}
 use Rattle.c_meaning.specs.Word as word
 use Rattle.c_meaning.specs.State.{Cell, AWord, ANumber, Block, State as CState}
+use Rattle.c_meaning.specs.Operations.{truth_word, truth_number}
 use Rattle.plan_rules.specs.declared.rep.Rep.{Rep}
-use Rattle.plan_rules.specs.declared.rep.Rep.TheVariants.{Obj, Long}
+use Rattle.plan_rules.specs.declared.rep.Rep.TheVariants.{Obj, Long, Bool as Truth_rep}
 
 -- where an object of the store is: in a block, in a local of this call, or in none that it sees
 pub data Role : Type 0 where
@@ -22,6 +23,7 @@ World = List Role
 
 abbrev pub WordOf : World → Value → Word → Type 0
 WordOf world (Fixnum n) w = w ≡ word.Fixnum n
+WordOf world (Boolean b) w = w ≡ truth_word b
 WordOf world Empty w = w ≡ Nil
 WordOf world Unspecified w = w ≡ Unspec
 
@@ -35,9 +37,15 @@ pub record LongCell (v : Value) (c : Cell) : Type 0 where
   pub value : v ≡ Fixnum n
   pub is : c ≡ ANumber n
 
+pub record TruthCell (v : Value) (c : Cell) : Type 0 where
+  pub b : Bool
+  pub value : v ≡ Boolean b
+  pub is : c ≡ ANumber (truth_number b)
+
 abbrev pub IsRep : World → Rep → Value → Cell → Type 0
 IsRep world Obj v c = ObjCell world v c
 IsRep world Long v c = LongCell v c
+IsRep world Truth_rep v c = TruthCell v c
 
 pub rep_moves : (world : World) (r : Rep) (v : Value) (a b : Cell) → b ≡ a → IsRep world r v a → IsRep world r v b
 rep_moves world r v a b e h = subst (λ c. IsRep world r v c) (sym e) h
@@ -60,12 +68,14 @@ grows_on g h = record { by = λ k r e. h.by k r (g.by k r e) }
 
 pub word_grows : (v : Value) (w : Word) (world later : World) → Grows world later → WordOf world v w → WordOf later v w
 word_grows (Fixnum n) w world later g h = h
+word_grows (Boolean b) w world later g h = h
 word_grows Empty w world later g h = h
 word_grows Unspecified w world later g h = h
 
 pub rep_grows : (r : Rep) (v : Value) (c : Cell) (world later : World) → Grows world later → IsRep world r v c → IsRep later r v c
 rep_grows Obj v c world later g h = record { w = h.w; is = h.is; means = word_grows v h.w world later g h.means }
 rep_grows Long v c world later g h = h
+rep_grows Truth_rep v c world later g h = h
 
 -- a callee sees no box of its caller
 abbrev pub hidden : Role → Role
