@@ -1,5 +1,6 @@
 -- The functions that may be called, and what fits where they are looked up.
 use Rattle.std.proofs.Common.{◌≡◌, ℕ, Bool, true, false, not, ◌&&◌, cond, List, [], ◌∷◌, ◌++◌, map, Option, Some, None, refl, sym, ap, ◌∙◌, if◌then◌else◌}
+use Rattle.std.proofs.Math.Bool.{and-false}
 use Rattle.c_tree.specs.declared.tree.CTy.{CTy}
 use Rattle.c_tree.specs.declared.tree.CTy.TheVariants.{Int}
 use Rattle.c_tree.specs.declared.tree.CArg.{CArg}
@@ -8,7 +9,7 @@ use Rattle.c_tree.specs.declared.tree.Callee.TheVariants as callee
 use Rattle.c_tree.specs.declared.tree.CExpr.{CExpr}
 use Rattle.c_tree.specs.declared.tree.CExpr.TheVariants as expr
 use Rattle.c_tree.specs.declared.tree.CVar.{CVar}
-use Rattle.c_tree.specs.Code.{Code, done, assign, call, return, loop, Fun, Item, declared, defined}
+use Rattle.c_tree.specs.Code.{Code, done, assign, call, return, test, loop, Fun, Item, declared, defined}
 use Rattle.c_tree.specs.Names.{is_main}
 use Rattle.c_meaning.specs.Execution.{is_same}
 use Rattle.c_meaning.specs.Checked.{Signature, signature_named, variable_named, callable, call_fits_signature, call_type, is_the_type, has_type, expr_fits, assigned_fits, code_fits, returns_last, same_type, same_types, are_distinct, variables_of, is_looped, is_main_function, function_fits, item_fits}
@@ -41,10 +42,6 @@ callable-named names name (s ∷ ss) = by (is_allowed names s.name) (is_same s.n
 pub callable-main : (names : List (List ℕ)) (name : List ℕ) (sigs : List Signature) → is_main name ≡ true → None ≡ signature_named (callable names sigs) name
 callable-main names name sigs main = sym (callable-named names name sigs ∙ ap (λ b. if not b && has_name names name then signature_named sigs name else None) main)
 
-and-false : (b : Bool) → (b && false) ≡ false
-and-false true = refl
-and-false false = refl
-
 pub callable-undefined : (names : List (List ℕ)) (name : List ℕ) (sigs : List Signature) → has_name names name ≡ false → None ≡ signature_named (callable names sigs) name
 callable-undefined names name sigs absent =
     sym (callable-named names name sigs ∙ ap (λ b. if b then signature_named sigs name else None) (ap (λ b. not (is_main name) && b) absent ∙ and-false (not (is_main name))))
@@ -73,6 +70,7 @@ module _ (a b : List Signature) (alike : (name : List ℕ) → signature_named a
   code_fits-alike vars t (assign x e rest) = λ i. assigned_fits-alike vars e (variable_named vars x) i && code_fits-alike vars t rest i
   code_fits-alike vars t (call c rest) = λ i. has_type (call_type-alike vars c.callee c.args i) && code_fits-alike vars t rest i
   code_fits-alike vars t (return e rest) = λ i. expr_fits-alike vars e t i && code_fits-alike vars t rest i
+  code_fits-alike vars t (test e c d rest) = λ i. expr_fits-alike vars e Int i && (code_fits-alike vars t c i && (code_fits-alike vars t d i && code_fits-alike vars t rest i))
   code_fits-alike vars t (loop l body rest) = refl
 
   is_looped-alike : (vars : List CVar) (t : CTy) (c : Code) → is_looped a vars t c ≡ is_looped b vars t c
@@ -80,11 +78,13 @@ module _ (a b : List Signature) (alike : (name : List ℕ) → signature_named a
   is_looped-alike vars t (loop l body (assign x e rest)) = refl
   is_looped-alike vars t (loop l body (call c rest)) = refl
   is_looped-alike vars t (loop l body (return e rest)) = refl
+  is_looped-alike vars t (loop l body (test e c d rest)) = refl
   is_looped-alike vars t (loop l body (loop k inner rest)) = refl
   is_looped-alike vars t done = refl
   is_looped-alike vars t (assign x e rest) = refl
   is_looped-alike vars t (call c rest) = refl
   is_looped-alike vars t (return e rest) = refl
+  is_looped-alike vars t (test e c d rest) = refl
 
   function_fits-alike : (f : Fun) → function_fits a f ≡ function_fits b f
   function_fits-alike f =

@@ -4,9 +4,10 @@ use Rattle.std.proofs.lemmas.List.{drop_all, map-append}
 use Rattle.std.proofs.lemmas.List.Folds.{list_any-append}
 use Rattle.std.specs.List.{list_all, list_any}
 use Rattle.std.specs.Cmp.Lexicographic.{nat_list_eq_equiv}
-use Rattle.c_tree.specs.declared.tree.CItem.{CItem}
+use Rattle.c_tree.specs.declared.function.CItem.{CItem}
 use Rattle.c_tree.specs.declared.tree.CVar.{CVar}
-use Rattle.c_tree.specs.Code.{Item, declared, defined, item_of, items_of}
+use Rattle.c_tree.specs.Code.{Item, declared, defined}
+use Rattle.c_tree.specs.Functions.{item_of, items_of}
 use Rattle.c_meaning.specs.Execution.{is_same}
 use Rattle.c_meaning.specs.Checked.{defined_names, are_distinct}
 use Rattle.name_table.specs.Names.{has_name}

@@ -3,8 +3,9 @@ use Rattle.std.proofs.Common.{◌≡◌, ℕ, ◌+◌, Bool, true, false, ◌&&�
 use Rattle.std.proofs.lemmas.List.{drop_all}
 use Rattle.std.specs.List.{list_any}
 use Rattle.std.specs.Cmp.Lexicographic.{nat_list_eq_equiv}
-use Rattle.c_tree.specs.declared.tree.CItem.{CItem}
-use Rattle.c_tree.specs.Code.{Item, item_of, items_of}
+use Rattle.c_tree.specs.declared.function.CItem.{CItem}
+use Rattle.c_tree.specs.Code.{Item}
+use Rattle.c_tree.specs.Functions.{item_of, items_of}
 use Rattle.c_tree.specs.Names.{is_main}
 use Rattle.c_meaning.specs.Checked.{Signature, signature_of, signature_named, item_fits, items_fit, defined_names, are_distinct, is_sound, is_checked}
 use Rattle.name_table.specs.Names.{has_name}

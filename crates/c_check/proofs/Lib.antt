@@ -1,8 +1,9 @@
+pub mod Arguments
 pub mod Called
 pub mod Entries
+pub mod Flat
 pub mod Fresh
 pub mod Items
 pub mod Rest
 pub mod SameTypes
-pub mod Statements
 pub mod Tables

@@ -1,5 +1,6 @@
 -- Signatures of which the first of each name stands for all, since all agree.
 use Rattle.std.proofs.Common.{◌≡◌, ℕ, Bool, true, false, not, ◌&&◌, ◌||◌, cond, List, [], ◌∷◌, ◌++◌, Option, Some, None, refl, sym, ap, ◌∙◌}
+use Rattle.std.proofs.Math.Bool.{and-true, and_self}
 use Rattle.std.specs.Cmp.{first_so, second_so}
 use Rattle.std.specs.Cmp.Lexicographic.{bytes_decides}
 use Rattle.c_meaning.specs.Execution.{is_same}
@@ -40,14 +41,6 @@ pub record IsTableOf (sigs table : List Signature) : Type 0 where
 
 pub no_signatures : IsTableOf [] []
 no_signatures = record { named = λ name. refl; agreed = λ s. refl }
-
-and-itself : (b : Bool) → (b && b) ≡ b
-and-itself true = refl
-and-itself false = refl
-
-and-true : (b : Bool) → (b && true) ≡ b
-and-true true = refl
-and-true false = refl
 
 same-signature : (t s : Signature) → t.name ≡ s.name → same_signature t s ≡ true → t ≡ s
 same-signature t s name h =
@@ -99,4 +92,4 @@ module _ (sigs table : List Signature) (s : Signature) (is : IsTableOf sigs tabl
           added
           (λ name h. ap (λ l. signature_named l name) at ∙ found name h)
           (λ name h. ap (λ l. signature_named l name) at)
-          (λ u h. ap (λ o. same_signature s u && agrees_with o u) (found u.name h) ∙ and-itself (same_signature s u))
+          (λ u h. ap (λ o. same_signature s u && agrees_with o u) (found u.name h) ∙ and_self (same_signature s u))

@@ -1,7 +1,7 @@
 -- What a check answers.
 use Rattle.std.specs.Prelude.{◌≡◌, Result, Ok, Err}
-use Rattle.c_tree.specs.Code.{items_of}
-use Rattle.c_tree.specs.declared.tree.CProgram.{CProgram}
+use Rattle.c_tree.specs.Functions.{items_of}
+use Rattle.c_tree.specs.declared.function.CProgram.{CProgram}
 use Rattle.c_meaning.specs.Checked.{IsChecked}
 use Rattle.c_check.specs.declared.checking.CheckErr.{CheckErr}
 use Rattle.c_check.specs.declared.checking.CheckErr.TheVariants.{NotChecked, Memory}

@@ -4,4 +4,5 @@ pub mod Names
 pub mod Programs
 pub mod Scopes
 pub mod Signatures
+pub mod Statements
 pub mod Variables

@@ -1,7 +1,8 @@
 -- What a function's statements may name, and whether one statement fits.
-use Rattle.std.specs.Prelude.{List, Bool, true, false, Option, Some, None, if◌then◌else◌}
+use Rattle.std.specs.Prelude.{List, Bool, false, Option, Some, None, if◌then◌else◌}
 use Rattle.c_tree.specs.declared.op.Op.{Op}
 use Rattle.c_tree.specs.declared.tree.CTy.{CTy}
+use Rattle.c_tree.specs.declared.tree.CTy.TheVariants.{Int}
 use Rattle.c_tree.specs.declared.tree.CArg.{CArg}
 use Rattle.c_tree.specs.declared.tree.CStmt.{CStmt}
 use Rattle.c_tree.specs.declared.tree.CStmt.TheVariants as stmt
@@ -19,12 +20,10 @@ variables_of s = s.variables
 abbrev pub operation_type : List CVar → Op → List CArg → Option CTy
 operation_type vars op args = if arguments_fit vars (wants_of op) args then Some (gives_of op) else None
 
+-- a statement by itself: those in its blocks are statements of the same list
 abbrev pub statement_fits : List Signature → List CVar → CTy → CStmt → Bool
 statement_fits sigs vars returned (stmt.Assign x e) = assigned_fits sigs vars e (variable_named vars x)
 statement_fits sigs vars returned (stmt.Call c) = has_type (call_type sigs vars c.callee c.args)
 statement_fits sigs vars returned (stmt.Return e) = expr_fits sigs vars e returned
-
-abbrev pub is_return : CStmt → Bool
-is_return (stmt.Assign x e) = false
-is_return (stmt.Call c) = false
-is_return (stmt.Return e) = true
+statement_fits sigs vars returned (stmt.If e p q) = expr_fits sigs vars e Int
+statement_fits sigs vars returned (stmt.Loop l p) = false

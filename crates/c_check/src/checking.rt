@@ -1,5 +1,5 @@
 ghost use Rattle.std.specs.Prelude.{◌≡◌};
-ghost use Rattle.c_tree.specs.Code.{items_of};
+ghost use Rattle.c_tree.specs.Functions.{items_of};
 ghost use Rattle.c_meaning.specs.Checked.{IsChecked};
 ghost use Rattle.c_check.specs.Answers.{ChecksTo};
 
@@ -35,9 +35,9 @@ pub struct Checked {
 }
 
 impl Model for Checked {
-    ghost use Rattle.c_tree.specs.Code.{items_of};
-    ghost use Rattle.c_tree.specs.declared.tree.CProgram.{CProgram};
-    ghost use Rattle.c_tree.specs.contracts.tree.CProgram as the_program;
+    ghost use Rattle.c_tree.specs.Functions.{items_of};
+    ghost use Rattle.c_tree.specs.declared.function.CProgram.{CProgram};
+    ghost use Rattle.c_tree.specs.contracts.function.CProgram as the_program;
     ghost use Rattle.c_meaning.specs.Checked.{IsChecked};
 
     ghost Value = { CProgram };

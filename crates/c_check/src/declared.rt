@@ -1,6 +1,6 @@
 ghost use Rattle.std.specs.Prelude.{◌≡◌, [], ◌∷◌, ◌++◌, map, None, true, IfOk, OnOk, option_copied};
 ghost use Rattle.std.specs.Option.{option_map};
-ghost use Rattle.c_tree.specs.Code.{item_of};
+ghost use Rattle.c_tree.specs.Functions.{item_of};
 ghost use Rattle.c_meaning.specs.Checked.{signature_of, signature_named, same_signature};
 ghost use Rattle.c_check.specs.Signatures.{signed, agrees_with, with_signature};
 

@@ -1,55 +1,37 @@
 ghost use Rattle.std.specs.Prelude.{◌≡◌, [], map, ◌&&◌, if◌then◌else◌, IfOk};
 ghost use Rattle.c_tree.specs.Names.{is_main};
-ghost use Rattle.c_tree.specs.Code.{onto, done, code_of, fun_of, item_of};
+ghost use Rattle.c_tree.specs.Functions.{fun_of, item_of};
 ghost use Rattle.c_meaning.specs.Checked.{same_types, callable, code_fits, returns_last, is_looped, is_main_function, function_fits, item_fits, variables_of as all_variables};
-ghost use Rattle.c_check.specs.Scopes.{functions_of, variables_of, is_return};
+ghost use Rattle.c_check.specs.Scopes.{functions_of, variables_of};
 
 use crate::declared::Declared;
 use crate::scope::Scope;
+use crate::statements::{is_loop_to, returns_last};
 use crate::types::{is_main, same_type};
 use crate::variables::Variables;
-use c_tree::{CBody, CFun, CItem, CStmt, CTy, CVar};
+use c_tree::{CFun, CItem, CTy, CVar};
 use name_table::NameTable;
 use scheme_data::OutOfMemory;
 use std::alloc::Global;
 
-fn is_return(statement: &CStmt) -> bool
-    ensures { result ≡ is_return statement.now }
+fn is_main_code(scope: &Scope, f: &CFun) -> bool
+    ensures { result ≡ (code_fits (functions_of scope.now) (variables_of scope.now) CTy.Int (fun_of f.now).code && returns_last (fun_of f.now).code) }
 {
-    match statement {
-        CStmt::Assign(_, _) => false,
-        CStmt::Call(_) => false,
-        CStmt::Return(_) => true,
+    if !scope.statements_fit(f.stmts.as_slice(), CTy::Int) {
+        return false;
     }
+    returns_last(f)
 }
 
-fn returns_last(statements: &[CStmt]) -> bool
-    ensures { result ≡ returns_last (onto statements.now done) }
-{
-    match statements.last() {
-        None => false,
-        Some(statement) => is_return(statement),
-    }
-}
-
+// Whether the first statement is a loop and the others are those of its block.
 fn is_looped(scope: &Scope, f: &CFun) -> bool
     ensures { result ≡ is_looped (functions_of scope.now) (variables_of scope.now) f.now.result (fun_of f.now).code }
 {
-    match &f.body {
-        CBody::Straight(_) => false,
-        CBody::Looped(_, statements) => scope.statements_fit(statements.as_slice(), f.result),
-    }
-}
-
-fn is_main_code(scope: &Scope, body: &CBody) -> bool
-    ensures { result ≡ (code_fits (functions_of scope.now) (variables_of scope.now) CTy.Int (code_of body.now) && returns_last (code_of body.now)) }
-{
-    match body {
-        CBody::Straight(statements) => {
-            scope.statements_fit(statements.as_slice(), CTy::Int)
-                && returns_last(statements.as_slice())
+    match f.stmts.as_slice().split_first() {
+        None => false,
+        Some((first, others)) => {
+            is_loop_to(first, f.body.end) && scope.statements_fit(others, f.result)
         }
-        CBody::Looped(_, _) => false,
     }
 }
 
@@ -69,7 +51,7 @@ fn is_main_function(scope: &Scope, f: &CFun) -> bool
     if !are_none(f.params.as_slice()) {
         return false;
     }
-    is_main_code(scope, &f.body)
+    is_main_code(scope, f)
 }
 
 fn function_fits(

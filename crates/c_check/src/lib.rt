@@ -6,6 +6,7 @@ mod declared;
 mod functions;
 mod program;
 mod scope;
+mod statements;
 mod types;
 mod variables;
 

@@ -1,5 +1,5 @@
 ghost use Rattle.std.specs.Prelude.{◌≡◌, [], ◌∷◌, ◌++◌, ◌&&◌, true, Some, IfOk};
-ghost use Rattle.c_tree.specs.Code.{items_of, item_of};
+ghost use Rattle.c_tree.specs.Functions.{items_of, item_of};
 ghost use Rattle.c_meaning.specs.Checked.{defined_names, item_fits, items_fit, is_checked, signature_of, signature_named};
 ghost use Rattle.c_check.specs.Signatures.{agrees_with, with_signature};
 ghost use Rattle.c_check.specs.Names.{are_fresh};

@@ -1,7 +1,7 @@
 ghost use Rattle.std.specs.Prelude.{◌≡◌, [], map, option_copied};
 ghost use Rattle.std.specs.Option.{option_map};
-ghost use Rattle.c_tree.specs.Code.{onto, done};
-ghost use Rattle.c_meaning.specs.Checked.{same_type, AType, AnError, AText, wants_of, gives_of, atom_fits, argument_fits, arguments_fit, signature_named, call_fits_signature, call_type, expr_fits, assigned_fits, variable_named, code_fits};
+ghost use Rattle.std.specs.List.{list_all};
+ghost use Rattle.c_meaning.specs.Checked.{same_type, AType, AnError, AText, wants_of, gives_of, atom_fits, argument_fits, arguments_fit, signature_named, call_fits_signature, call_type, expr_fits, assigned_fits, variable_named};
 ghost use Rattle.c_check.specs.Signatures.{signed};
 ghost use Rattle.c_check.specs.Scopes.{functions_of, variables_of, operation_type, statement_fits};
 
@@ -49,11 +49,14 @@ fn gives_of(op: Op) -> CTy
 {
     match op {
         Op::BoxLong => CTy::Obj,
+        Op::BoxBool => CTy::Obj,
         Op::UnboxLong => CTy::Long,
+        Op::Truth => CTy::Int,
         Op::Raise => CTy::Int,
         Op::Args => CTy::Obj,
         Op::Status => CTy::Int,
         Op::Primitive(Primitive::Add) => CTy::Long,
+        Op::Primitive(Primitive::Less) => CTy::Int,
         Op::Primitive(Primitive::Display) => CTy::Obj,
         Op::Primitive(Primitive::Newline) => CTy::Obj,
     }
@@ -102,11 +105,14 @@ impl<'a> Scope<'a> {
     {
         match op {
             Op::BoxLong => self.arguments_fit(&[CTy::Long], args),
+            Op::BoxBool => self.arguments_fit(&[CTy::Int], args),
             Op::UnboxLong => self.arguments_fit(&[CTy::Obj], args),
+            Op::Truth => self.arguments_fit(&[CTy::Obj], args),
             Op::Raise => raise_fits(args),
             Op::Args => self.arguments_fit(&[], args),
             Op::Status => self.arguments_fit(&[CTy::Obj], args),
             Op::Primitive(Primitive::Add) => self.arguments_fit(&[CTy::Long, CTy::Long], args),
+            Op::Primitive(Primitive::Less) => self.arguments_fit(&[CTy::Long, CTy::Long], args),
             Op::Primitive(Primitive::Display) => self.arguments_fit(&[CTy::Obj], args),
             Op::Primitive(Primitive::Newline) => self.arguments_fit(&[], args),
         }
@@ -177,6 +183,7 @@ impl<'a> Scope<'a> {
         }
     }
 
+    // Whether a statement fits, whatever stands in its blocks.
     fn statement_fits(&self, statement: &CStmt, returned: CTy) -> bool
         ensures { result ≡ statement_fits (functions_of self.now) (variables_of self.now) returned statement.now }
     {
@@ -184,18 +191,17 @@ impl<'a> Scope<'a> {
             CStmt::Assign(x, e) => self.assigned_fits(x.as_bytes(), e),
             CStmt::Call(call) => self.call_type(call).is_some(),
             CStmt::Return(e) => self.expression_fits(e, returned),
+            CStmt::If(condition, _, _) => self.expression_fits(condition, CTy::Int),
+            CStmt::Loop(_, _) => false,
         }
     }
 
-    /// Whether statements fit, where the function gives this type.
+    /// Whether each of the statements fits, where the function gives this type.
     pub fn statements_fit(&self, statements: &[CStmt], returned: CTy) -> bool
-        ensures { result ≡ code_fits (functions_of self.now) (variables_of self.now) returned (onto statements.now done) }
+        ensures { result ≡ list_all (statement_fits (functions_of self.now) (variables_of self.now) returned) statements.now }
     {
-        for statement in statements {
-            if !self.statement_fits(statement, returned) {
-                return false;
-            }
-        }
-        true
+        statements
+            .iter()
+            .all(|statement| self.statement_fits(statement, returned))
     }
 }

@@ -1,6 +1,6 @@
 use crate::{CheckErr, check};
 use c_tree::{
-    CArg, CAtom, CBody, CCall, CExpr, CFun, CItem, CProgram, CStmt, CTy, CVar, Callee, Op,
+    CArg, CAtom, CCall, CExpr, CFun, CItem, CProgram, CTy, CVar, Callee, Layout, Op, Piece, lay_out,
 };
 use prim_table::Primitive;
 use scheme_data::{List, OutOfMemory, Text};
@@ -27,15 +27,27 @@ enum Change {
     MainWithoutReturn,
     MainWithParameter,
     NoMain,
+    ConditionOfTruth,
+    ConditionOfObject,
+    ConditionOfLong,
+    FaultInFirstBlock,
+    FaultInSecondBlock,
+    MainReturnsInBlocks,
     NotOneLoop,
+    StatementBehindLoop,
+    LoopInALoop,
     CallInALoop,
     CallOfMainInALoop,
     CallOfNoneInALoop,
 }
 
-const KEPT: [Change; 2] = [Change::Nothing, Change::CallInALoop];
+const KEPT: [Change; 3] = [
+    Change::Nothing,
+    Change::ConditionOfTruth,
+    Change::CallInALoop,
+];
 
-const BROKEN: [Change; 20] = [
+const BROKEN: [Change; 27] = [
     Change::UndeclaredLocal,
     Change::WrongType,
     Change::WrongTypeOfResult,
@@ -53,7 +65,14 @@ const BROKEN: [Change; 20] = [
     Change::MainWithoutReturn,
     Change::MainWithParameter,
     Change::NoMain,
+    Change::ConditionOfObject,
+    Change::ConditionOfLong,
+    Change::FaultInFirstBlock,
+    Change::FaultInSecondBlock,
+    Change::MainReturnsInBlocks,
     Change::NotOneLoop,
+    Change::StatementBehindLoop,
+    Change::LoopInALoop,
     Change::CallOfMainInALoop,
     Change::CallOfNoneInALoop,
 ];
@@ -71,8 +90,12 @@ fn var(alloc: Global, ty: CTy, bytes: &[u8]) -> Result<CVar, OutOfMemory> {
     })
 }
 
-fn assign(alloc: Global, bytes: &[u8], e: CExpr) -> Result<CStmt, OutOfMemory> {
-    Ok(CStmt::Assign(Text::from_bytes(alloc, bytes)?, e))
+fn assign(alloc: Global, bytes: &[u8], e: CExpr) -> Result<Piece, OutOfMemory> {
+    Ok(Piece::Assign(Text::from_bytes(alloc, bytes)?, e))
+}
+
+fn number(n: i64) -> CExpr {
+    CExpr::Atom(CAtom::Int(n))
 }
 
 fn operation(alloc: Global, op: Op) -> CCall {
@@ -157,35 +180,97 @@ fn sum_call(alloc: Global, change: Change) -> Result<CCall, OutOfMemory> {
     Ok(call)
 }
 
-fn main_statements(alloc: Global, change: Change) -> Result<List<CStmt>, OutOfMemory> {
-    let mut statements = List::new(alloc);
-    let first: &[u8] = if change == Change::WrongType {
-        b"x2"
-    } else {
-        b"x1"
-    };
-    statements.push(assign(alloc, first, CExpr::Call(operation(alloc, Op::Args)))?)?;
-    let second: &[u8] = if change == Change::WrongTypeOfResult {
-        b"x1"
-    } else {
-        b"x2"
-    };
-    statements.push(assign(alloc, second, CExpr::Call(sum_call(alloc, change)?))?)?;
-    statements.push(CStmt::Call(function_call(alloc, change)?))?;
-    statements.push(CStmt::Call(raise_call(alloc, change)?))?;
+// `bgl_p__3c(x2, 7)`
+fn less_call(alloc: Global) -> Result<CCall, OutOfMemory> {
+    let mut call = operation(alloc, Op::Primitive(Primitive::Less));
+    call.args.push(CArg::Atom(name(alloc, b"x2")?))?;
+    call.args.push(CArg::Atom(CAtom::Int(7)))?;
+    Ok(call)
+}
+
+// An int, but for what is changed.
+fn condition(alloc: Global, change: Change) -> Result<CExpr, OutOfMemory> {
+    match change {
+        Change::ConditionOfObject => Ok(CExpr::Atom(name(alloc, b"x1")?)),
+        Change::ConditionOfLong => Ok(CExpr::Atom(name(alloc, b"x2")?)),
+        Change::ConditionOfTruth => {
+            let mut call = operation(alloc, Op::Truth);
+            call.args.push(CArg::Atom(name(alloc, b"x1")?))?;
+            Ok(CExpr::Call(call))
+        }
+        _ => Ok(CExpr::Atom(name(alloc, b"x4")?)),
+    }
+}
+
+// `x1 = BGL_NIL;`
+fn block(alloc: Global, is_faulty: bool) -> Result<Piece, OutOfMemory> {
+    let x: &[u8] = if is_faulty { b"x2" } else { b"x1" };
+    assign(alloc, x, CExpr::Atom(CAtom::Nil))
+}
+
+// `if (x4) { x1 = BGL_NIL; } else { x1 = BGL_NIL; }`
+fn push_if(alloc: Global, change: Change, pieces: &mut List<Piece>) -> Result<(), OutOfMemory> {
+    pieces.push(Piece::If(condition(alloc, change)?))?;
+    pieces.push(block(alloc, change == Change::FaultInFirstBlock)?)?;
+    pieces.push(Piece::Else)?;
+    pieces.push(block(alloc, change == Change::FaultInSecondBlock)?)?;
+    pieces.push(Piece::End)?;
+    Ok(())
+}
+
+// `return 255;`
+fn push_return(alloc: Global, change: Change, pieces: &mut List<Piece>) -> Result<(), OutOfMemory> {
     if change == Change::MainWithoutReturn {
-        return Ok(statements);
+        return Ok(());
+    }
+    if change == Change::MainReturnsInBlocks {
+        pieces.push(Piece::If(condition(alloc, change)?))?;
+        pieces.push(Piece::Return(number(0)))?;
+        pieces.push(Piece::Else)?;
+        pieces.push(Piece::Return(number(1)))?;
+        pieces.push(Piece::End)?;
+        return Ok(());
     }
     let status = if change == Change::NumberOutOfInt {
         256
     } else {
         255
     };
-    statements.push(CStmt::Return(CExpr::Atom(CAtom::Int(status))))?;
-    Ok(statements)
+    pieces.push(Piece::Return(number(status)))?;
+    Ok(())
 }
 
-fn main_function(alloc: Global, change: Change) -> Result<CFun, OutOfMemory> {
+fn main_pieces(alloc: Global, change: Change) -> Result<List<Piece>, OutOfMemory> {
+    let mut pieces = List::new(alloc);
+    let first: &[u8] = if change == Change::WrongType {
+        b"x2"
+    } else {
+        b"x1"
+    };
+    pieces.push(assign(alloc, first, CExpr::Call(operation(alloc, Op::Args)))?)?;
+    let second: &[u8] = if change == Change::WrongTypeOfResult {
+        b"x1"
+    } else {
+        b"x2"
+    };
+    pieces.push(assign(alloc, second, CExpr::Call(sum_call(alloc, change)?))?)?;
+    pieces.push(assign(alloc, b"x4", CExpr::Call(less_call(alloc)?))?)?;
+    pieces.push(Piece::Call(function_call(alloc, change)?))?;
+    pieces.push(Piece::Call(raise_call(alloc, change)?))?;
+    push_if(alloc, change, &mut pieces)?;
+    push_return(alloc, change, &mut pieces)?;
+    Ok(pieces)
+}
+
+// The pieces are those of statements: an error else, which fails each test.
+fn laid_out(alloc: Global, pieces: List<Piece>) -> Result<Layout, CheckErr> {
+    match lay_out(alloc, pieces)? {
+        None => Err(CheckErr::NotChecked),
+        Some(layout) => Ok(layout),
+    }
+}
+
+fn main_function(alloc: Global, change: Change) -> Result<CFun, CheckErr> {
     let mut params = List::new(alloc);
     if change == Change::MainWithParameter {
         params.push(var(alloc, CTy::Obj, b"x3")?)?;
@@ -193,15 +278,18 @@ fn main_function(alloc: Global, change: Change) -> Result<CFun, OutOfMemory> {
     let mut locals = List::new(alloc);
     locals.push(var(alloc, CTy::Obj, b"x1")?)?;
     locals.push(var(alloc, CTy::Long, b"x2")?)?;
+    locals.push(var(alloc, CTy::Int, b"x4")?)?;
     if change == Change::TwoLocalsOfOneName {
         locals.push(var(alloc, CTy::Long, b"x2")?)?;
     }
+    let layout = laid_out(alloc, main_pieces(alloc, change)?)?;
     Ok(CFun {
         result: CTy::Int,
         name: Text::from_bytes(alloc, b"main")?,
         params,
         locals,
-        body: CBody::Straight(main_statements(alloc, change)?),
+        body: layout.body,
+        stmts: layout.stmts,
     })
 }
 
@@ -218,35 +306,53 @@ fn called_in_loop(alloc: Global, change: Change) -> Result<Option<CCall>, OutOfM
     }
 }
 
+fn push_loop(alloc: Global, label: &[u8], pieces: &mut List<Piece>) -> Result<(), OutOfMemory> {
+    pieces.push(Piece::Loop(Text::from_bytes(alloc, label)?))?;
+    Ok(())
+}
+
+// `L1: for (;;) { x2 = x1; return x2; }`
+fn looped_pieces(alloc: Global, change: Change) -> Result<List<Piece>, OutOfMemory> {
+    let mut pieces = List::new(alloc);
+    if change != Change::NotOneLoop {
+        push_loop(alloc, b"L1", &mut pieces)?;
+    }
+    pieces.push(assign(alloc, b"x2", CExpr::Atom(name(alloc, b"x1")?))?)?;
+    if let Some(called) = called_in_loop(alloc, change)? {
+        pieces.push(Piece::Call(called))?;
+    }
+    if change == Change::LoopInALoop {
+        push_loop(alloc, b"L2", &mut pieces)?;
+        pieces.push(Piece::End)?;
+    }
+    pieces.push(Piece::Return(CExpr::Atom(name(alloc, b"x2")?)))?;
+    if change != Change::NotOneLoop {
+        pieces.push(Piece::End)?;
+    }
+    if change == Change::StatementBehindLoop {
+        pieces.push(Piece::Return(CExpr::Atom(name(alloc, b"x2")?)))?;
+    }
+    Ok(pieces)
+}
+
 // `obj f_m__n(obj x1) { obj x2; L1: for (;;) { x2 = x1; return x2; } }`
-fn looped_function(alloc: Global, change: Change) -> Result<CFun, OutOfMemory> {
+fn looped_function(alloc: Global, change: Change) -> Result<CFun, CheckErr> {
     let mut params = List::new(alloc);
     params.push(var(alloc, CTy::Obj, b"x1")?)?;
     let mut locals = List::new(alloc);
     locals.push(var(alloc, CTy::Obj, b"x2")?)?;
-    let mut statements = List::new(alloc);
-    statements.push(assign(alloc, b"x2", CExpr::Atom(name(alloc, b"x1")?))?)?;
-    if let Some(called) = called_in_loop(alloc, change)? {
-        statements.push(CStmt::Call(called))?;
-    }
-    statements.push(CStmt::Return(CExpr::Atom(name(alloc, b"x2")?)))?;
+    let layout = laid_out(alloc, looped_pieces(alloc, change)?)?;
     Ok(CFun {
         result: CTy::Obj,
         name: Text::from_bytes(alloc, FUNCTION)?,
         params,
         locals,
-        body: body(alloc, change, statements)?,
+        body: layout.body,
+        stmts: layout.stmts,
     })
 }
 
-fn body(alloc: Global, change: Change, statements: List<CStmt>) -> Result<CBody, OutOfMemory> {
-    if change == Change::NotOneLoop {
-        return Ok(CBody::Straight(statements));
-    }
-    Ok(CBody::Looped(Text::from_bytes(alloc, b"L1")?, statements))
-}
-
-fn program(alloc: Global, change: Change) -> Result<CProgram, OutOfMemory> {
+fn program(alloc: Global, change: Change) -> Result<CProgram, CheckErr> {
     let mut items = List::new(alloc);
     items.push(main_declaration(alloc)?)?;
     if change != Change::CallBeforeDeclaration {

@@ -1,5 +1,5 @@
 ghost use Rattle.std.specs.Prelude.{◌≡◌, [], ◌∷◌, ◌++◌, not, true, IfOk};
-ghost use Rattle.c_tree.specs.Code.{fun_of};
+ghost use Rattle.c_tree.specs.Functions.{fun_of};
 ghost use Rattle.c_meaning.specs.Checked.{variables_of};
 ghost use Rattle.c_check.specs.Names.{are_fresh};
 ghost use Rattle.c_check.specs.Variables.{has_variable, type_named, names_of, MakesVariables};

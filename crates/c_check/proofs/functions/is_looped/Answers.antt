@@ -1,11 +1,16 @@
-use Rattle.std.proofs.Common.{◌∙◌, ap, sym}
-use Rattle.c_tree.specs.Code.{code_of}
-use Rattle.c_meaning.specs.Checked.{is_looped}
+use Rattle.std.proofs.Common.{◌∙◌, sym}
 use Rattle.c_check.specs.Scopes.{functions_of, variables_of}
-use Rattle.c_check.proofs.Statements.{straight-looped}
+use Rattle.c_check.proofs.Flat.{is_loop, is_no_loop}
 use Rattle.c_check.proofs.functions.is_looped.Goals as goal
 
-pub returns-in-Straight : goal.returns-in-Straight
-returns-in-Straight c =
-    straight-looped (functions_of c.args.scope.now) (variables_of c.args.scope.now) c.args.f.now.result c.in-Straight.field-0
-    ∙ sym (ap (λ b. is_looped (functions_of c.args.scope.now) (variables_of c.args.scope.now) c.args.f.now.result (code_of b)) c.in-Straight.is)
+pub returns-then-is_loop_to : goal.returns-then-is_loop_to
+returns-then-is_loop_to c =
+    c.statements_fit.ensures
+    ∙ is_loop (functions_of c.args.scope.now) (variables_of c.args.scope.now) c.args.f.now.result c.args.f.now.stmts c.args.f.now.body c.args.f.now.laid
+    c.in-Some.first.now c.in-Some.others.now (sym c.as_slice.ensures ∙ c.in-Some.ensures.cases.0) (sym c.is_loop_to.ensures ∙ c.if-is_loop_to.true)
+
+pub returns-else-is_loop_to : goal.returns-else-is_loop_to
+returns-else-is_loop_to c =
+    c.if-is_loop_to.false
+    ∙ is_no_loop (functions_of c.args.scope.now) (variables_of c.args.scope.now) c.args.f.now.result c.args.f.now.stmts c.args.f.now.body c.args.f.now.laid
+    c.in-Some.first.now c.in-Some.others.now (sym c.as_slice.ensures ∙ c.in-Some.ensures.cases.0) (sym c.is_loop_to.ensures ∙ c.if-is_loop_to.false)

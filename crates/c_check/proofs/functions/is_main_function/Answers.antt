@@ -1,5 +1,5 @@
 use Rattle.std.proofs.Common.{◌∙◌, [], ap, map, sym}
-use Rattle.c_tree.specs.Code.{fun_of}
+use Rattle.c_tree.specs.Functions.{fun_of}
 use Rattle.c_meaning.specs.Checked.{same_types}
 use Rattle.c_check.specs.Scopes.{functions_of, variables_of}
 use Rattle.c_check.proofs.Called.{main_gives_other, main_takes_some, main_fits}

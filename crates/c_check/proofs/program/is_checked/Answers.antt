@@ -1,5 +1,5 @@
 use Rattle.std.proofs.Common.{subst}
-use Rattle.c_tree.specs.Code.{items_of}
+use Rattle.c_tree.specs.Functions.{items_of}
 use Rattle.c_check.specs.Programs.{MakesNames}
 use Rattle.c_check.proofs.Items.{not_distinct}
 use Rattle.c_check.proofs.program.is_checked.Goals as goal

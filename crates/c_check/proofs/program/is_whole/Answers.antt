@@ -1,5 +1,5 @@
 use Rattle.std.proofs.Common.{◌∙◌, sym, refl, false, true, codes}
-use Rattle.c_tree.specs.Code.{items_of}
+use Rattle.c_tree.specs.Functions.{items_of}
 use Rattle.name_table.specs.Names.{has_name}
 use Rattle.c_check.proofs.Items.{checked_whole}
 use Rattle.c_check.proofs.program.is_whole.Goals as goal

@@ -1,6 +1,6 @@
 use Rattle.std.proofs.Common.{arith}
 use Rattle.c_check.specs.Scopes.{variables_of}
-use Rattle.c_check.proofs.Statements.{too_many}
+use Rattle.c_check.proofs.Arguments.{too_many}
 use Rattle.c_check.proofs.scope.Scope.arguments_fit.Goals as goal
 
 pub returns-then-types-args : goal.returns-then-types-args

@@ -1,5 +1,5 @@
 use Rattle.c_check.specs.Scopes.{variables_of}
-use Rattle.c_check.proofs.Statements.{ArgumentsFrom}
+use Rattle.c_check.proofs.Arguments.{ArgumentsFrom}
 use Rattle.c_check.proofs.scope.Scope.arguments_fit.Given as goal
 
 abbrev pub invariant-loop-i : goal.invariant-loop-i
