@@ -1,10 +1,11 @@
 -- The classes of words: what each spelling is read as, and what it isn't.
 use Rattle.std.proofs.Common.{◌≡◌, ℕ, ◌<◌, List, [], ◌∷◌, Bool, true, false, ◌&&◌, if◌then◌else◌, Some, None, refl, ap, ◌∙◌, codes, nat_eq, lit<, arith}
 use Rattle.std.specs.Prelude.{ℤ, pos, negsuc}
-use Rattle.std.proofs.lemmas.Bool.{ne_eqb, and_parts, eqb-true}
+use Rattle.std.specs.Option.{is_some}
+use Rattle.std.proofs.lemmas.Bool.{ne_eqb}
 use Rattle.std.proofs.lemmas.Slice.Eq.{bytes_eq-Decides}
 use Rattle.scheme_data.specs.Decimal.{number_text}
-use Rattle.prim_table.specs.declared.primitives.Primitive.TheVariants.{Add, Display, Newline}
+use Rattle.prim_table.specs.declared.primitives.Primitive.TheVariants.{Add, Less, Display, Newline}
 use Rattle.c_tree.specs.declared.tree.CTy.{CTy}
 use Rattle.c_tree.specs.declared.tree.CTy.TheVariants as ty
 use Rattle.c_tree.specs.declared.tree.CAtom.{CAtom}
@@ -12,11 +13,17 @@ use Rattle.c_tree.specs.declared.tree.CAtom.TheVariants as atom
 use Rattle.c_tree.specs.declared.tree.Callee.{Callee}
 use Rattle.c_tree.specs.declared.tree.Callee.TheVariants as callee
 use Rattle.c_tree.specs.declared.op.Op.{Op}
-use Rattle.c_tree.specs.declared.op.Op.TheVariants.{BoxLong, UnboxLong, Raise, Args, Status, Primitive as Does}
+use Rattle.c_tree.specs.declared.op.Op.TheVariants.{BoxLong, BoxBool, UnboxLong, Truth, Raise, Args, Status, Primitive as Does}
+use Rattle.c_tree.specs.declared.tree.Token.{Token}
+use Rattle.c_tree.specs.declared.tree.Token.TheVariants.{Word, Mark}
+use Rattle.c_tree.specs.declared.pieces.Piece.{Piece}
+use Rattle.c_tree.specs.declared.pieces.Piece.TheVariants as piece
 use Rattle.c_tree.specs.Operations.{op_text, op_named}
 use Rattle.c_tree.specs.Names.{is_function_name, is_local_name, is_label_name, is_numeral}
-use Rattle.c_tree.specs.Spelling.{type_text, atom_text, callee_text, NamedAtom, NamedCallee}
-use Rattle.c_read.specs.Words.{type_of, number_of, constant_of, or_number, atom_of, callee_of, is_text, is_return}
+use Rattle.c_tree.specs.Spelling.{type_text, atom_text, callee_text, piece_tokens, pieces_tokens, NamedAtom, NamedCallee, NamedPiece, NamedPieces}
+use Rattle.c_read.specs.Words.{type_of, number_of, constant_of, or_number, atom_of, callee_of, is_text, is_return, is_if, is_else}
+use Rattle.c_read.specs.Sequences.{is_first}
+use Rattle.c_read.specs.Productions.{is_type}
 use Rattle.c_read.proofs.Numbers.{Headed, headed_decimal, number_is}
 
 pub type_of_text : (t : CTy) → type_of (type_text t) ≡ Some t
@@ -71,22 +78,28 @@ atom_of_text atom.Eof h = refl
 op_no_function : (op : Op) → is_function_name (op_text op) ≡ false
 unfolding is_function_name
 op_no_function BoxLong = refl
+op_no_function BoxBool = refl
 op_no_function UnboxLong = refl
+op_no_function Truth = refl
 op_no_function Raise = refl
 op_no_function Args = refl
 op_no_function Status = refl
 op_no_function (Does Add) = refl
+op_no_function (Does Less) = refl
 op_no_function (Does Display) = refl
 op_no_function (Does Newline) = refl
 
 op_of_text : (op : Op) → op_named (op_text op) ≡ Some op
 unfolding op_named
 op_of_text BoxLong = refl
+op_of_text BoxBool = refl
 op_of_text UnboxLong = refl
+op_of_text Truth = refl
 op_of_text Raise = refl
 op_of_text Args = refl
 op_of_text Status = refl
 op_of_text (Does Add) = refl
+op_of_text (Does Less) = refl
 op_of_text (Does Display) = refl
 op_of_text (Does Newline) = refl
 
@@ -104,91 +117,92 @@ apart f word text n y = go (is_text word text) refl
     go true e = let same : word ≡ text = (bytes_eq-Decides word text).0 e in let k : f word ≡ f text = ap f same in cc
     go false e = refl
 
-no_type : (f : List ℕ → Bool) (word : List ℕ) → f (codes "obj") ≡ false → f (codes "long") ≡ false → f (codes "char") ≡ false → f (codes "int") ≡ false
-    → f word ≡ true → type_of word ≡ None
-unfolding type_of
-no_type f word a b c d y =
-    rw (apart f word (codes "obj") a y, apart f word (codes "long") b y, apart f word (codes "char") c y, apart f word (codes "int") d y) refl
-
--- the first word of a statement
-pub record Starts (word : List ℕ) : Type 0 where
+-- a word that names something: it is no type, and begins no statement of its own
+pub record Plain (word : List ℕ) : Type 0 where
   pub no_type : type_of word ≡ None
-  pub no_label : is_label_name word ≡ false
+  pub no_return : is_return word ≡ false
+  pub no_if : is_if word ≡ false
+  pub no_else : is_else word ≡ false
 
-local_no_label : (word : List ℕ) → is_local_name word ≡ true → is_label_name word ≡ false
-unfolding is_local_name is_label_name
-local_no_label [] h = refl
-local_no_label (b ∷ bs) h =
-    let e : b ≡ 120 = eqb-true b 120 (and_parts (nat_eq b 120) (is_numeral bs) h).0 in
-    let ne : nat_eq b 76 ≡ false = ne_eqb b 76 (λ f. omega arith) in ap (λ c. c && is_numeral bs) ne
+-- a test that fails on each word of the grammar
+record Keyless (f : List ℕ → Bool) : Type 0 where
+  on_obj : f (codes "obj") ≡ false
+  on_long : f (codes "long") ≡ false
+  on_char : f (codes "char") ≡ false
+  on_int : f (codes "int") ≡ false
+  on_return : f (codes "return") ≡ false
+  on_if : f (codes "if") ≡ false
+  on_else : f (codes "else") ≡ false
 
-label_no_function : (word : List ℕ) → is_label_name word ≡ true → is_function_name word ≡ false
-unfolding is_label_name is_function_name
-label_no_function [] h = refl
-label_no_function (b ∷ []) h =
-    let e : b ≡ 76 = eqb-true b 76 (and_parts (nat_eq b 76) (is_numeral []) h).0 in
-    let m : nat_eq b 109 ≡ false = ne_eqb b 109 (λ k. omega arith) in rw m refl
-label_no_function (b ∷ c ∷ bs) h =
-    let e : b ≡ 76 = eqb-true b 76 (and_parts (nat_eq b 76) (is_numeral (c ∷ bs)) h).0 in
-    let f : nat_eq b 102 ≡ false = ne_eqb b 102 (λ k. omega arith) in
-    let m : nat_eq b 109 ≡ false = ne_eqb b 109 (λ k. omega arith) in rw (f, m) refl
+no_type : (f : List ℕ → Bool) (word : List ℕ) → Keyless f → f word ≡ true → type_of word ≡ None
+unfolding type_of
+no_type f word k y =
+    rw (
+      apart f word (codes "obj") k.on_obj y,
+      apart f word (codes "long") k.on_long y,
+      apart f word (codes "char") k.on_char y,
+      apart f word (codes "int") k.on_int y,
+    ) refl
 
-function_no_label : (word : List ℕ) → is_function_name word ≡ true → is_label_name word ≡ false
-function_no_label word h = go (is_label_name word) refl
-  where
-    go : (b : Bool) → is_label_name word ≡ b → b ≡ false
-    go true e = let n = label_no_function word e in absurd (cc)
-    go false e = refl
+plain : (f : List ℕ → Bool) (word : List ℕ) → Keyless f → f word ≡ true → Plain word
+plain f word k y = record {
+  no_type = no_type f word k y;
+  no_return = apart f word (codes "return") k.on_return y;
+  no_if = apart f word (codes "if") k.on_if y;
+  no_else = apart f word (codes "else") k.on_else y;
+}
 
-pub local_starts : (x : List ℕ) → is_local_name x ≡ true → Starts x
+pub local_plain : (x : List ℕ) → is_local_name x ≡ true → Plain x
 unfolding is_local_name
-local_starts x h = record { no_type = no_type is_local_name x refl refl refl refl h; no_label = local_no_label x h }
+local_plain x h = plain is_local_name x (record { on_obj = refl; on_long = refl; on_char = refl; on_int = refl; on_return = refl; on_if = refl; on_else = refl }) h
 
-pub local_no_return : (x : List ℕ) → is_local_name x ≡ true → is_return x ≡ false
-unfolding is_local_name
-local_no_return x h = apart is_local_name x (codes "return") refl h
-
-pub label_no_type : (l : List ℕ) → is_label_name l ≡ true → type_of l ≡ None
+pub label_plain : (l : List ℕ) → is_label_name l ≡ true → Plain l
 unfolding is_label_name
-label_no_type l h = no_type is_label_name l refl refl refl refl h
+label_plain l h = plain is_label_name l (record { on_obj = refl; on_long = refl; on_char = refl; on_int = refl; on_return = refl; on_if = refl; on_else = refl }) h
 
-function_starts : (name : List ℕ) → is_function_name name ≡ true → Starts name
+function_plain : (name : List ℕ) → is_function_name name ≡ true → Plain name
 unfolding is_function_name
-function_starts name h = record { no_type = no_type is_function_name name refl refl refl refl h; no_label = function_no_label name h }
+function_plain name h = plain is_function_name name (record { on_obj = refl; on_long = refl; on_char = refl; on_int = refl; on_return = refl; on_if = refl; on_else = refl }) h
 
-op_starts : (op : Op) → Starts (op_text op)
-unfolding type_of is_label_name
-op_starts BoxLong = record { no_type = refl; no_label = refl }
-op_starts UnboxLong = record { no_type = refl; no_label = refl }
-op_starts Raise = record { no_type = refl; no_label = refl }
-op_starts Args = record { no_type = refl; no_label = refl }
-op_starts Status = record { no_type = refl; no_label = refl }
-op_starts (Does Add) = record { no_type = refl; no_label = refl }
-op_starts (Does Display) = record { no_type = refl; no_label = refl }
-op_starts (Does Newline) = record { no_type = refl; no_label = refl }
+op_plain : (op : Op) → Plain (op_text op)
+unfolding type_of
+op_plain BoxLong = record { no_type = refl; no_return = refl; no_if = refl; no_else = refl }
+op_plain BoxBool = record { no_type = refl; no_return = refl; no_if = refl; no_else = refl }
+op_plain UnboxLong = record { no_type = refl; no_return = refl; no_if = refl; no_else = refl }
+op_plain Truth = record { no_type = refl; no_return = refl; no_if = refl; no_else = refl }
+op_plain Raise = record { no_type = refl; no_return = refl; no_if = refl; no_else = refl }
+op_plain Args = record { no_type = refl; no_return = refl; no_if = refl; no_else = refl }
+op_plain Status = record { no_type = refl; no_return = refl; no_if = refl; no_else = refl }
+op_plain (Does Add) = record { no_type = refl; no_return = refl; no_if = refl; no_else = refl }
+op_plain (Does Less) = record { no_type = refl; no_return = refl; no_if = refl; no_else = refl }
+op_plain (Does Display) = record { no_type = refl; no_return = refl; no_if = refl; no_else = refl }
+op_plain (Does Newline) = record { no_type = refl; no_return = refl; no_if = refl; no_else = refl }
 
-pub callee_starts : (c : Callee) → NamedCallee c → Starts (callee_text c)
-callee_starts (callee.Fun name) h = function_starts name h
-callee_starts (callee.Op op) h = op_starts op
+pub callee_plain : (c : Callee) → NamedCallee c → Plain (callee_text c)
+callee_plain (callee.Fun name) h = function_plain name h
+callee_plain (callee.Op op) h = op_plain op
 
-op_no_return : (op : Op) → is_return (op_text op) ≡ false
-op_no_return BoxLong = refl
-op_no_return UnboxLong = refl
-op_no_return Raise = refl
-op_no_return Args = refl
-op_no_return Status = refl
-op_no_return (Does Add) = refl
-op_no_return (Does Display) = refl
-op_no_return (Does Newline) = refl
+-- What begins a piece -----------------------------------------------------------------------
 
-function_no_return : (name : List ℕ) → is_function_name name ≡ true → is_return name ≡ false
-unfolding is_function_name
-function_no_return name h = apart is_function_name name (codes "return") refl h
+-- tokens that go on neither with locals nor with an `if` before them
+pub record Begins (ts : List Token) : Type 0 where
+  pub no_type : is_first is_type ts ≡ false
+  pub no_else : is_first is_else ts ≡ false
 
-pub callee_no_return : (c : Callee) → NamedCallee c → is_return (callee_text c) ≡ false
-callee_no_return (callee.Fun name) h = function_no_return name h
-callee_no_return (callee.Op op) h = op_no_return op
+begins : (word : List ℕ) (rest : List Token) → Plain word → Begins (Word word ∷ rest)
+begins word rest p = record { no_type = ap is_some p.no_type; no_else = p.no_else }
 
-pub return_starts : Starts (codes "return")
-unfolding type_of is_label_name
-return_starts = record { no_type = refl; no_label = refl }
+piece_begins : (p : Piece) (rest : List Token) → NamedPiece p → Begins (piece_tokens p rest)
+unfolding type_of
+piece_begins (piece.Assign x e) rest h = begins x _ (local_plain x h.0)
+piece_begins (piece.Call c) rest h = begins (callee_text c.callee) _ (callee_plain c.callee h.0)
+piece_begins (piece.Return e) rest h = record { no_type = refl; no_else = refl }
+piece_begins (piece.If e) rest h = record { no_type = refl; no_else = refl }
+piece_begins piece.Else rest h = record { no_type = refl; no_else = refl }
+piece_begins (piece.Loop l) rest h = begins l _ (label_plain l h)
+piece_begins piece.End rest h = record { no_type = refl; no_else = refl }
+
+-- to a closing brace
+pub pieces_begin : (ps : List Piece) (rest : List Token) → NamedPieces ps → Begins (pieces_tokens ps (Mark 125 ∷ rest))
+pieces_begin [] rest h = record { no_type = refl; no_else = refl }
+pieces_begin (p ∷ ps) rest h = piece_begins p (pieces_tokens ps (Mark 125 ∷ rest)) h.0

@@ -1,5 +1,5 @@
 -- What is spelled in front of some tokens makes them no fewer, and spells no wrong token.
-use Rattle.std.proofs.Common.{◌≡◌, ℕ, ◌≤◌, List, [], ◌∷◌, length, refl, ◌∙◌, arith}
+use Rattle.std.proofs.Common.{◌≡◌, ℕ, ◌<◌, ◌≤◌, List, [], ◌∷◌, length, refl, subst, ◌∙◌, arith}
 use Rattle.c_tree.specs.declared.tree.CTy.{CTy}
 use Rattle.c_tree.specs.declared.tree.CArg.{CArg}
 use Rattle.c_tree.specs.declared.tree.CArg.TheVariants as arg
@@ -9,8 +9,12 @@ use Rattle.c_tree.specs.declared.tree.CExpr.TheVariants as expr
 use Rattle.c_tree.specs.declared.tree.CVar.{CVar}
 use Rattle.c_tree.specs.declared.tree.Token.{Token}
 use Rattle.c_tree.specs.declared.tree.Token.TheVariants.{Word, Mark}
-use Rattle.c_tree.specs.Code.{Code, done, assign, call, return, loop, Item, declared, defined}
-use Rattle.c_tree.specs.Spelling.{argument_token, more_arguments, argument_tokens, call_tokens, expr_tokens, code_tokens, more_types, type_tokens, more_params, param_tokens, local_tokens, item_tokens, items_tokens}
+use Rattle.c_tree.specs.declared.pieces.Piece.{Piece}
+use Rattle.c_tree.specs.declared.pieces.Piece.TheVariants as piece
+use Rattle.c_tree.specs.Code.{Code, Item, declared, defined}
+use Rattle.c_tree.specs.Pieces.{pieces}
+use Rattle.c_tree.specs.Spelling.{argument_token, more_arguments, argument_tokens, call_tokens, expr_tokens, code_tokens, piece_tokens, pieces_tokens, more_types, type_tokens, more_params, param_tokens, local_tokens, item_tokens, items_tokens}
+use Rattle.c_tree.proofs.Spelled.{pieces_spelled}
 use Rattle.c_read.specs.Scans.{has_bad}
 
 pub record Extends (rest ts : List Token) : Type 0 where
@@ -50,21 +54,31 @@ pub expr_extends : (e : CExpr) (rest : List Token) → Extends rest (expr_tokens
 expr_extends (expr.Atom a) rest = word _ rest (same rest)
 expr_extends (expr.Call c) rest = call_extends c rest
 
-ended_extends : (e : CExpr) (rest : List Token) → Extends rest (expr_tokens e (Mark 59 ∷ rest))
-ended_extends e rest = trans (mark 59 rest (same rest)) (expr_extends e (Mark 59 ∷ rest))
+pub piece_extends : (p : Piece) (rest : List Token) → Extends rest (piece_tokens p rest)
+piece_extends (piece.Assign x e) rest = word x _ (mark 61 (expr_tokens e (Mark 59 ∷ rest)) (trans (mark 59 rest (same rest)) (expr_extends e (Mark 59 ∷ rest))))
+piece_extends (piece.Call c) rest = trans (mark 59 rest (same rest)) (call_extends c (Mark 59 ∷ rest))
+piece_extends (piece.Return e) rest = word _ (expr_tokens e (Mark 59 ∷ rest)) (trans (mark 59 rest (same rest)) (expr_extends e (Mark 59 ∷ rest)))
+piece_extends (piece.If e) rest =
+    word _ _ (mark 40 (expr_tokens e (Mark 41 ∷ Mark 123 ∷ rest)) (trans (mark 41 (Mark 123 ∷ rest) (mark 123 rest (same rest))) (expr_extends e (Mark 41 ∷ Mark 123 ∷ rest))))
+piece_extends piece.Else rest = mark 125 _ (word _ _ (mark 123 rest (same rest)))
+piece_extends (piece.Loop l) rest = word l _ (mark 58 _ (word _ _ (mark 40 _ (mark 59 _ (mark 59 _ (mark 41 _ (mark 123 rest (same rest))))))))
+piece_extends piece.End rest = mark 125 rest (same rest)
+
+pub piece_longer : (p : Piece) (rest : List Token) → length rest < length (piece_tokens p rest)
+piece_longer (piece.Assign x e) rest = omega (arith, (expr_extends e (Mark 59 ∷ rest)).longer)
+piece_longer (piece.Call c) rest = omega (arith, (call_extends c (Mark 59 ∷ rest)).longer)
+piece_longer (piece.Return e) rest = omega (arith, (expr_extends e (Mark 59 ∷ rest)).longer)
+piece_longer (piece.If e) rest = omega (arith, (expr_extends e (Mark 41 ∷ Mark 123 ∷ rest)).longer)
+piece_longer piece.Else rest = omega arith
+piece_longer (piece.Loop l) rest = omega arith
+piece_longer piece.End rest = omega arith
+
+pieces_extends : (ps : List Piece) (rest : List Token) → Extends rest (pieces_tokens ps rest)
+pieces_extends [] rest = same rest
+pieces_extends (p ∷ ps) rest = trans (pieces_extends ps rest) (piece_extends p (pieces_tokens ps rest))
 
 pub code_extends : (c : Code) (rest : List Token) → Extends rest (code_tokens c rest)
-code_extends done rest = same rest
-code_extends (assign x e next) rest =
-    word x (Mark 61 ∷ expr_tokens e (Mark 59 ∷ code_tokens next rest)) (mark 61 (expr_tokens e (Mark 59 ∷ code_tokens next rest))
-    (trans (code_extends next rest) (ended_extends e (code_tokens next rest))))
-code_extends (call c next) rest =
-    trans (mark 59 (code_tokens next rest) (code_extends next rest)) (call_extends c (Mark 59 ∷ code_tokens next rest))
-code_extends (return e next) rest =
-    word _ (expr_tokens e (Mark 59 ∷ code_tokens next rest)) (trans (code_extends next rest) (ended_extends e (code_tokens next rest)))
-code_extends (loop l body next) rest =
-    let inner = trans (mark 125 (code_tokens next rest) (code_extends next rest)) (code_extends body (Mark 125 ∷ code_tokens next rest)) in
-    word l _ (mark 58 _ (word _ _ (mark 40 _ (mark 59 _ (mark 59 _ (mark 41 _ (mark 123 _ inner)))))))
+code_extends c rest = subst (Extends rest) (pieces_spelled c [] rest) (pieces_extends (pieces c []) rest)
 
 pub more_types_extends : (ts : List CTy) (rest : List Token) → Extends rest (more_types ts rest)
 more_types_extends [] rest = same rest

@@ -1,6 +1,7 @@
 -- What is spelled with right names is read, and the tokens behind it are left.
-use Rattle.std.proofs.Common.{◌≡◌, ℕ, zero, suc, ◌<◌, List, [], ◌∷◌, length, codes, true, false, if◌then◌else◌, Option, Some, None, refl, ap, ◌∙◌, arith}
+use Rattle.std.proofs.Common.{◌≡◌, ℕ, zero, suc, ◌-◌, ◌<◌, List, [], ◌∷◌, length, codes, nat_eq, Bool, true, false, if◌then◌else◌, Option, Some, None, refl, sym, ap, subst, ◌∙◌, arith}
 use Rattle.std.specs.Option.{is_some}
+use Rattle.std.proofs.lemmas.Bool.{ne_eqb}
 use Rattle.c_tree.specs.declared.tree.CTy.{CTy}
 use Rattle.c_tree.specs.declared.tree.CTy.TheVariants as ty
 use Rattle.c_tree.specs.declared.tree.CArg.{CArg}
@@ -8,29 +9,60 @@ use Rattle.c_tree.specs.declared.tree.CArg.TheVariants as arg
 use Rattle.c_tree.specs.declared.tree.CCall.{CCall}
 use Rattle.c_tree.specs.declared.tree.CExpr.{CExpr}
 use Rattle.c_tree.specs.declared.tree.CExpr.TheVariants as expr
-use Rattle.c_tree.specs.declared.tree.CStmt.{CStmt}
-use Rattle.c_tree.specs.declared.tree.CStmt.TheVariants as stmt
-use Rattle.c_tree.specs.declared.tree.CBody.{CBody}
-use Rattle.c_tree.specs.declared.tree.CBody.TheVariants.{Straight, Looped}
 use Rattle.c_tree.specs.declared.tree.CVar.{CVar}
-use Rattle.c_tree.specs.declared.tree.CItem.{CItem}
-use Rattle.c_tree.specs.declared.tree.CItem.TheVariants.{Declared, Defined}
+use Rattle.c_tree.specs.declared.pieces.Piece.{Piece}
+use Rattle.c_tree.specs.declared.pieces.Piece.TheVariants as piece
 use Rattle.c_tree.specs.declared.tree.Token.{Token}
 use Rattle.c_tree.specs.declared.tree.Token.TheVariants.{Word, Mark}
 use Rattle.c_tree.specs.Names.{is_function_name, is_local_name, is_label_name}
-use Rattle.c_tree.specs.Code.{code_of, item_of, items_of}
-use Rattle.c_tree.specs.Spelling.{type_text, callee_text, argument_token, more_arguments, argument_tokens, expr_tokens, code_tokens, more_types, more_params, param_tokens, local_tokens, item_tokens, items_tokens, NamedArgument, NamedArguments, NamedCall, NamedExpr, NamedCode, NamedBody, NamedVars, NamedItem, NamedItems}
+use Rattle.c_tree.specs.Code.{Code, done, assign, call, return, test, loop, Item, declared, defined}
+use Rattle.c_tree.specs.Pieces.{pieces}
+use Rattle.c_tree.specs.Spelling.{
+  type_text,
+  callee_text,
+  argument_token,
+  more_arguments,
+  argument_tokens,
+  expr_tokens,
+  code_tokens,
+  piece_tokens,
+  pieces_tokens,
+  more_types,
+  more_params,
+  param_tokens,
+  local_tokens,
+  item_tokens,
+  items_tokens,
+  NamedArgument,
+  NamedArguments,
+  NamedCall,
+  NamedExpr,
+  NamedCode,
+  NamedPiece,
+  NamedPieces,
+  NamedVars,
+  NamedItem,
+  NamedItems,
+}
+use Rattle.c_tree.proofs.Spelled.{pieces_spelled, named_pieces}
+use Rattle.c_read.specs.Words.{is_else}
 use Rattle.c_read.specs.Sequences.{after, read_as, if_else, after_mark, is_first, onto, many, all}
 use Rattle.c_read.specs.Productions.{
   argument,
   next_argument,
   arguments,
-  ended_call,
+  call_of,
   expression,
-  statement,
-  block,
+  condition,
   after_head,
-  looped,
+  named_statement,
+  statement,
+  closing,
+  next_piece,
+  depth_after,
+  after_body,
+  pieces_within,
+  all_pieces,
   body,
   is_type,
   type_first,
@@ -52,9 +84,12 @@ use Rattle.c_read.specs.Productions.{
   at_end,
   parsed,
 }
-use Rattle.c_read.specs.Yields.{code_from}
-use Rattle.c_read.proofs.Classes.{type_of_text, atom_of_text, callee_of_text, local_starts, callee_starts, return_starts, label_no_type, local_no_return, callee_no_return}
-use Rattle.c_read.proofs.Loops.{statement_longer, item_longer}
+use Rattle.c_read.proofs.Classes.{type_of_text, atom_of_text, callee_of_text, local_plain, label_plain, callee_plain, pieces_begin}
+use Rattle.c_read.proofs.Extends.{piece_longer}
+use Rattle.c_read.proofs.Loops.{item_longer}
+use Rattle.c_read.proofs.Many.{onto-nil}
+use Rattle.c_read.proofs.Nesting.{code_in_pieces}
+use Rattle.c_read.proofs.PieceLoop.{within_more, within_ended}
 
 nil_read : {X : Type 0} (one : List Token → Option (X × List Token)) (end : List Token → Option (List Token)) (n : ℕ) (ts left : List Token)
     → end ts ≡ Some left → many one end (suc n) ts ≡ Some ([], left)
@@ -102,90 +137,119 @@ arguments_read (a ∷ args) rest h =
     ∙ ap (λ o. after o (λ b left. onto (b ∷ []) (many next_argument (after_mark 41) (suc (length left)) left))) (argument_read a tail h.0)
     ∙ ap (onto (a ∷ [])) (more_arguments_read args rest (suc (length tail)) h.1 (omega arith))
 
-call_read : (c : CCall) (rest : List Token) → NamedCall c → ended_call (callee_text c.callee) (argument_tokens c.args (Mark 41 ∷ Mark 59 ∷ rest)) ≡ Some (c, rest)
-unfolding ended_call
-call_read c rest h = rw (callee_of_text c.callee h.0, arguments_read c.args (Mark 59 ∷ rest) h.1) refl
+call_read : (c : CCall) (rest : List Token) → NamedCall c → call_of (callee_text c.callee) (argument_tokens c.args (Mark 41 ∷ rest)) ≡ Some (c, rest)
+call_read c rest h = rw (callee_of_text c.callee h.0, arguments_read c.args rest h.1) refl
 
-expression_read : (e : CExpr) (rest : List Token) → NamedExpr e → expression (expr_tokens e (Mark 59 ∷ rest)) ≡ Some (e, rest)
+-- an expression is read where no parenthesis follows that could be of a call
+expression_read : (e : CExpr) (m : ℕ) (rest : List Token) → nat_eq m 40 ≡ false → NamedExpr e → expression (expr_tokens e (Mark m ∷ rest)) ≡ Some (e, Mark m ∷ rest)
 unfolding expression
-expression_read (expr.Atom a) rest h = rw (atom_of_text a h) refl
-expression_read (expr.Call c) rest h = rw (call_read c rest h) refl
+expression_read (expr.Atom a) m rest n h = rw (n, atom_of_text a h) refl
+expression_read (expr.Call c) m rest n h = rw (call_read c (Mark m ∷ rest) h) refl
 
 -- Statements --------------------------------------------------------------------------------
 
-statement_read : (s : CStmt) (rest : List Token) → NamedCode (code_from (s ∷ [])) → statement (code_tokens (code_from (s ∷ [])) rest) ≡ Some (s, rest)
-unfolding statement
-statement_read (stmt.Assign x e) rest h =
-    let l : is_local_name x ≡ true = h.0 in
-    rw (local_no_return x l, l, expression_read e rest h.1) refl
-statement_read (stmt.Call c) rest h = rw (callee_no_return c.callee h.0.0, call_read c rest h.0) refl
-statement_read (stmt.Return e) rest h = rw (expression_read e rest h.0) refl
+assign_read : (x : List ℕ) (e : CExpr) (rest : List Token) → is_local_name x ≡ true → NamedExpr e → next_piece (piece_tokens (piece.Assign x e) rest) ≡ Some (piece.Assign x e, rest)
+unfolding next_piece statement named_statement
+assign_read x e rest l h = let p = local_plain x l in rw (p.no_return, p.no_if, l, expression_read e 59 rest refl h) refl
 
-statement_no_mark : (s : CStmt) (m : ℕ) (rest : List Token) → after_mark m (code_tokens (code_from (s ∷ [])) rest) ≡ None
-statement_no_mark (stmt.Assign x e) m rest = refl
-statement_no_mark (stmt.Call c) m rest = refl
-statement_no_mark (stmt.Return e) m rest = refl
+called_read : (c : CCall) (rest : List Token) → NamedCall c → next_piece (piece_tokens (piece.Call c) rest) ≡ Some (piece.Call c, rest)
+unfolding next_piece statement named_statement
+called_read c rest h = let p = callee_plain c.callee h.0 in rw (p.no_return, p.no_if, call_read c (Mark 59 ∷ rest) h) refl
 
-code_split : (s : CStmt) (ss : List CStmt) (rest : List Token) → code_tokens (code_from (s ∷ ss)) rest ≡ code_tokens (code_from (s ∷ [])) (code_tokens (code_from ss) rest)
-code_split (stmt.Assign x e) ss rest = refl
-code_split (stmt.Call c) ss rest = refl
-code_split (stmt.Return e) ss rest = refl
+loop_read : (l : List ℕ) (rest : List Token) → is_label_name l ≡ true → next_piece (piece_tokens (piece.Loop l) rest) ≡ Some (piece.Loop l, rest)
+unfolding next_piece statement named_statement after_head
+loop_read l rest h = let p = label_plain l h in rw (p.no_return, p.no_if, h) refl
 
-named_split : (s : CStmt) (ss : List CStmt) → NamedCode (code_from (s ∷ ss)) → NamedCode (code_from (s ∷ [])) × NamedCode (code_from ss)
-named_split (stmt.Assign x e) ss h = ((h.0, h.1, tt), h.2)
-named_split (stmt.Call c) ss h = ((h.0, tt), h.1)
-named_split (stmt.Return e) ss h = ((h.0, tt), h.1)
+-- no `else` stands behind, which a brace would go on with
+piece_read : (p : Piece) (rest : List Token) → NamedPiece p → is_first is_else rest ≡ false → next_piece (piece_tokens p rest) ≡ Some (p, rest)
+unfolding next_piece statement condition closing
+piece_read (piece.Assign x e) rest h n = assign_read x e rest h.0 h.1
+piece_read (piece.Call c) rest h n = called_read c rest h
+piece_read (piece.Return e) rest h n = rw (expression_read e 59 rest refl h) refl
+piece_read (piece.If e) rest h n = rw (expression_read e 41 (Mark 123 ∷ rest) refl h) refl
+piece_read piece.Else rest h n = refl
+piece_read (piece.Loop l) rest h n = loop_read l rest h
+piece_read piece.End rest h n = rw n refl
 
-code_read : (ss : List CStmt) (rest : List Token) (n : ℕ) → NamedCode (code_from ss) → length (code_tokens (code_from ss) (Mark 125 ∷ rest)) < n
-    → many statement (after_mark 125) n (code_tokens (code_from ss) (Mark 125 ∷ rest)) ≡ Some (ss, rest)
-code_read ss rest zero h l = absurd (omega arith)
-code_read [] rest (suc n) h l = nil_read statement (after_mark 125) n (Mark 125 ∷ rest) rest refl
-code_read (s ∷ ss) rest (suc n) h l =
-    let tail = code_tokens (code_from ss) (Mark 125 ∷ rest) in
-    let whole = code_tokens (code_from (s ∷ [])) tail in
-    let split : code_tokens (code_from (s ∷ ss)) (Mark 125 ∷ rest) ≡ whole = code_split s ss (Mark 125 ∷ rest) in
-    let k = named_split s ss h in
-    let longer : length tail < length whole = statement_longer s tail in
-    let same : length (code_tokens (code_from (s ∷ ss)) (Mark 125 ∷ rest)) ≡ length whole = ap length split in
-    ap (many statement (after_mark 125) (suc n)) split
-    ∙ cons_read statement (after_mark 125) n whole s tail ss rest (statement_no_mark s 125 tail) (statement_read s tail k.0)
-    (code_read ss rest n k.1 (omega arith))
+-- the blocks that are open allow a piece
+abbrev Allows : ℕ → Piece → Type 0
+Allows depth (piece.Assign x e) = Unit {0}
+Allows depth (piece.Call c) = Unit {0}
+Allows depth (piece.Return e) = Unit {0}
+Allows depth (piece.If e) = Unit {0}
+Allows depth piece.Else = 0 < depth
+Allows depth (piece.Loop l) = Unit {0}
+Allows depth piece.End = 0 < depth
 
-block_read : (ss : List CStmt) (rest : List Token) → NamedCode (code_from ss) → block (code_tokens (code_from ss) (Mark 125 ∷ rest)) ≡ Some (ss, rest)
-unfolding all
-block_read ss rest h = code_read ss rest (suc (length (code_tokens (code_from ss) (Mark 125 ∷ rest)))) h (omega arith)
+-- where so many blocks are open, pieces close them all, and nothing else
+abbrev Closes : ℕ → List Piece → Type 0
+Closes depth [] = depth ≡ 0
+Closes depth (p ∷ ps) = Allows depth p × Closes (depth_after depth p) ps
 
--- the first word, if there is one, is neither a label nor a type
-no_label_first : (ss : List CStmt) (rest : List Token) → NamedCode (code_from ss) → is_first is_label_name (code_tokens (code_from ss) (Mark 125 ∷ rest)) ≡ false
-no_label_first [] rest h = refl
-no_label_first (stmt.Assign x e ∷ ss) rest h = (local_starts x h.0).no_label
-no_label_first (stmt.Call c ∷ ss) rest h = (callee_starts c.callee h.0.0).no_label
-no_label_first (stmt.Return e ∷ ss) rest h = return_starts.no_label
+end_closes : (others : List Piece) (depth : ℕ) → Closes depth others → Closes (suc depth) (piece.End ∷ others)
+end_closes others depth h = let e : depth ≡ suc depth - 1 = omega arith in (omega arith, subst (λ n. Closes n others) e h)
 
-no_type_first : (ss : List CStmt) (rest : List Token) → NamedCode (code_from ss) → is_first is_type (code_tokens (code_from ss) (Mark 125 ∷ rest)) ≡ false
-no_type_first [] rest h = refl
-no_type_first (stmt.Assign x e ∷ ss) rest h = ap is_some (local_starts x h.0).no_type
-no_type_first (stmt.Call c ∷ ss) rest h = ap is_some (callee_starts c.callee h.0.0).no_type
-no_type_first (stmt.Return e ∷ ss) rest h = ap is_some return_starts.no_type
+code_closes : (c : Code) (others : List Piece) (depth : ℕ) → Closes depth others → Closes depth (pieces c others)
+code_closes done others depth h = h
+code_closes (assign x e next) others depth h = (tt, code_closes next others depth h)
+code_closes (call c next) others depth h = (tt, code_closes next others depth h)
+code_closes (return e next) others depth h = (tt, code_closes next others depth h)
+code_closes (test e a b next) others depth h =
+    let end = piece.End ∷ pieces next others in
+    let second : Closes (suc depth) (pieces b end) = code_closes b end (suc depth) (end_closes (pieces next others) depth (code_closes next others depth h)) in
+    (tt, code_closes a (piece.Else ∷ pieces b end) (suc depth) (omega arith, second))
+code_closes (loop l inner next) others depth h =
+    (tt, code_closes inner (piece.End ∷ pieces next others) (suc depth) (end_closes (pieces next others) depth (code_closes next others depth h)))
 
-straight_named : (ss : List CStmt) → NamedBody (code_from ss) → NamedCode (code_from ss)
-straight_named [] h = tt
-straight_named (stmt.Assign x e ∷ ss) h = h
-straight_named (stmt.Call c ∷ ss) h = h
-straight_named (stmt.Return e ∷ ss) h = h
+no_brace : (depth : ℕ) (ts : List Token) → after_mark 125 ts ≡ None → after_body depth ts ≡ None
+no_brace depth ts e = go (nat_eq depth 0)
+  where
+    go : (b : Bool) → (if b then after_mark 125 ts else None) ≡ None
+    go true = e
+    go false = refl
 
-body_read : (b : CBody) (rest : List Token) → NamedBody (code_of b) → body (code_tokens (code_of b) (Mark 125 ∷ rest)) ≡ Some (b, rest)
-unfolding body looped after_head
-body_read (Straight ss) rest h =
-    let k = straight_named ss h in
-    rw (no_label_first ss rest k, block_read ss rest k) refl
-body_read (Looped l ss) rest h =
-    let k : is_label_name l ≡ true = h.0 in
-    rw (k, block_read ss (Mark 125 ∷ rest) h.1) refl
+in_a_block : (depth : ℕ) (ts : List Token) → 0 < depth → after_body depth ts ≡ None
+in_a_block depth ts l = let n : nat_eq depth 0 ≡ false = ne_eqb depth 0 (λ e. omega arith) in rw n refl
 
-body_no_type : (b : CBody) (rest : List Token) → NamedBody (code_of b) → is_first is_type (code_tokens (code_of b) (Mark 125 ∷ rest)) ≡ false
-body_no_type (Straight ss) rest h = no_type_first ss rest (straight_named ss h)
-body_no_type (Looped l ss) rest h = ap is_some (label_no_type l h.0)
+no_body_end : (depth : ℕ) (p : Piece) (rest : List Token) → Allows depth p → after_body depth (piece_tokens p rest) ≡ None
+no_body_end depth (piece.Assign x e) rest h = no_brace depth (piece_tokens (piece.Assign x e) rest) refl
+no_body_end depth (piece.Call c) rest h = no_brace depth (piece_tokens (piece.Call c) rest) refl
+no_body_end depth (piece.Return e) rest h = no_brace depth (piece_tokens (piece.Return e) rest) refl
+no_body_end depth (piece.If e) rest h = no_brace depth (piece_tokens (piece.If e) rest) refl
+no_body_end depth piece.Else rest h = in_a_block depth (piece_tokens piece.Else rest) h
+no_body_end depth (piece.Loop l) rest h = no_brace depth (piece_tokens (piece.Loop l) rest) refl
+no_body_end depth piece.End rest h = in_a_block depth (piece_tokens piece.End rest) h
+
+within_cons : (most depth : ℕ) (ts : List Token) (p : Piece) (rest : List Token) (ps : List Piece) (left : List Token)
+    → after_body depth ts ≡ None → next_piece ts ≡ Some (p, rest) → pieces_within most (depth_after depth p) rest ≡ Some (ps, left)
+    → pieces_within (suc most) depth ts ≡ Some (p ∷ ps, left)
+within_cons most depth ts p rest ps left e f h = sym (onto-nil (pieces_within (suc most) depth ts)) ∙ within_more most depth [] ts p rest e f ∙ ap (onto (p ∷ [])) h
+
+pieces_read : (ps : List Piece) (depth : ℕ) (rest : List Token) (most : ℕ) → NamedPieces ps → Closes depth ps → length (pieces_tokens ps (Mark 125 ∷ rest)) < most
+    → pieces_within most depth (pieces_tokens ps (Mark 125 ∷ rest)) ≡ Some (ps, rest)
+pieces_read ps depth rest zero h k l = absurd (omega arith)
+pieces_read [] depth rest (suc most) h k l =
+    sym (onto-nil (pieces_within (suc most) depth (Mark 125 ∷ rest))) ∙ within_ended most depth [] (Mark 125 ∷ rest) rest (ap (λ n. after_body n (Mark 125 ∷ rest)) k)
+pieces_read (p ∷ ps) depth rest (suc most) h k l =
+    let tail = pieces_tokens ps (Mark 125 ∷ rest) in
+    let longer : length tail < length (piece_tokens p tail) = piece_longer p tail in
+    within_cons most depth (piece_tokens p tail) p tail ps rest (no_body_end depth p tail k.0) (piece_read p tail h.0 (pieces_begin ps rest h.1).no_else)
+    (pieces_read ps (depth_after depth p) rest most h.1 k.1 (omega arith))
+
+all_pieces_read : (ps : List Piece) (rest : List Token) → NamedPieces ps → Closes 0 ps → all_pieces (pieces_tokens ps (Mark 125 ∷ rest)) ≡ Some (ps, rest)
+unfolding all_pieces
+all_pieces_read ps rest h k = pieces_read ps 0 rest (suc (length (pieces_tokens ps (Mark 125 ∷ rest)))) h k (omega arith)
+
+pieces_body : (c : Code) (rest : List Token) → NamedCode c → body (pieces_tokens (pieces c []) (Mark 125 ∷ rest)) ≡ Some (c, rest)
+unfolding body
+pieces_body c rest h = rw (all_pieces_read (pieces c []) rest (named_pieces c [] h tt) (code_closes c [] 0 refl), code_in_pieces c) refl
+
+body_read : (c : Code) (rest : List Token) → NamedCode c → body (code_tokens c (Mark 125 ∷ rest)) ≡ Some (c, rest)
+body_read c rest h = subst (λ ts. body ts ≡ Some (c, rest)) (pieces_spelled c [] (Mark 125 ∷ rest)) (pieces_body c rest h)
+
+body_no_type : (c : Code) (rest : List Token) → NamedCode c → is_first is_type (code_tokens c (Mark 125 ∷ rest)) ≡ false
+body_no_type c rest h =
+    subst (λ ts. is_first is_type ts ≡ false) (pieces_spelled c [] (Mark 125 ∷ rest)) (pieces_begin (pieces c []) rest (named_pieces c [] h tt)).no_type
 
 -- Items -------------------------------------------------------------------------------------
 
@@ -248,12 +312,12 @@ locals_read : (vs : List CVar) (rest : List Token) → NamedVars vs → is_first
 unfolding all
 locals_read vs rest h e = some_locals_read vs rest (suc (length (local_tokens vs rest))) h e (omega arith)
 
-definition_read : (t : CTy) (name : List ℕ) (params vs : List CVar) (b : CBody) (rest : List Token) → NamedVars vs → NamedBody (code_of b)
-    → definition t name params (local_tokens vs (code_tokens (code_of b) (Mark 125 ∷ rest)))
-    ≡ Some (Defined (record { result = t; name = name; params = params; locals = vs; body = b }), rest)
+definition_read : (t : CTy) (name : List ℕ) (params vs : List CVar) (k : Code) (rest : List Token) → NamedVars vs → NamedCode k
+    → definition t name params (local_tokens vs (code_tokens k (Mark 125 ∷ rest)))
+    ≡ Some (defined (record { result = t; name = name; params = params; locals = vs; code = k }), rest)
 unfolding definition
-definition_read t name params vs b rest h k =
-    rw (locals_read vs (code_tokens (code_of b) (Mark 125 ∷ rest)) h (body_no_type b rest k), body_read b rest k) refl
+definition_read t name params vs k rest h n =
+    rw (locals_read vs (code_tokens k (Mark 125 ∷ rest)) h (body_no_type k rest n), body_read k rest n) refl
 
 type_no_void : (t : CTy) → is_void (type_text t) ≡ false
 type_no_void ty.Obj = refl
@@ -265,16 +329,16 @@ types_no_word : (ts : List CTy) (rest : List Token) → is_first any_word (more_
 types_no_word [] rest = refl
 types_no_word (t ∷ ts) rest = refl
 
-defined_read : (t : CTy) (name : List ℕ) (ps vs : List CVar) (b : CBody) (rest : List Token)
-    → is_function_name name ≡ true → NamedVars ps → NamedVars vs → NamedBody (code_of b)
-    → item (Word (type_text t) ∷ Word name ∷ Mark 40 ∷ param_tokens ps (Mark 41 ∷ Mark 123 ∷ local_tokens vs (code_tokens (code_of b) (Mark 125 ∷ rest))))
-    ≡ Some (Defined (record { result = t; name = name; params = ps; locals = vs; body = b }), rest)
+defined_read : (t : CTy) (name : List ℕ) (ps vs : List CVar) (k : Code) (rest : List Token)
+    → is_function_name name ≡ true → NamedVars ps → NamedVars vs → NamedCode k
+    → item (Word (type_text t) ∷ Word name ∷ Mark 40 ∷ param_tokens ps (Mark 41 ∷ Mark 123 ∷ local_tokens vs (code_tokens k (Mark 125 ∷ rest))))
+    ≡ Some (defined (record { result = t; name = name; params = ps; locals = vs; code = k }), rest)
 unfolding item item_rest without_params with_params with_names
-defined_read t name [] vs b rest n p h k =
-    let inner = local_tokens vs (code_tokens (code_of b) (Mark 125 ∷ rest)) in
-    rw (type_read t (Word name ∷ Mark 40 ∷ Word (codes "void") ∷ Mark 41 ∷ Mark 123 ∷ inner), n, definition_read t name [] vs b rest h k) refl
-defined_read t name (v ∷ ps) vs b rest n p h k =
-    let inner = local_tokens vs (code_tokens (code_of b) (Mark 125 ∷ rest)) in
+defined_read t name [] vs k rest n p h m =
+    let inner = local_tokens vs (code_tokens k (Mark 125 ∷ rest)) in
+    rw (type_read t (Word name ∷ Mark 40 ∷ Word (codes "void") ∷ Mark 41 ∷ Mark 123 ∷ inner), n, definition_read t name [] vs k rest h m) refl
+defined_read t name (v ∷ ps) vs k rest n p h m =
+    let inner = local_tokens vs (code_tokens k (Mark 125 ∷ rest)) in
     let tail = more_params ps (Mark 41 ∷ Mark 123 ∷ inner) in
     let named : is_local_name v.name ≡ true = p.0 in
     rw (
@@ -284,33 +348,33 @@ defined_read t name (v ∷ ps) vs b rest n p h k =
       type_read v.ty (Word v.name ∷ tail),
       named,
       all_params_read ps (Mark 123 ∷ inner) p.1,
-      definition_read t name (v ∷ ps) vs b rest h k,
+      definition_read t name (v ∷ ps) vs k rest h m,
     ) refl
 
-item_read : (i : CItem) (rest : List Token) → NamedItem (item_of i) → item (item_tokens (item_of i) rest) ≡ Some (i, rest)
+item_read : (i : Item) (rest : List Token) → NamedItem i → item (item_tokens i rest) ≡ Some (i, rest)
 unfolding item item_rest without_params with_params with_types
-item_read (Declared t name []) rest h =
+item_read (declared t name []) rest h =
     let k : is_function_name name ≡ true = h in
     rw (type_read t (Word name ∷ Mark 40 ∷ Word (codes "void") ∷ Mark 41 ∷ Mark 59 ∷ rest), k) refl
-item_read (Declared t name (u ∷ ts)) rest h =
+item_read (declared t name (u ∷ ts)) rest h =
     let k : is_function_name name ≡ true = h in
     let tail = more_types ts (Mark 41 ∷ Mark 59 ∷ rest) in
     rw (type_read t (Word name ∷ Mark 40 ∷ Word (type_text u) ∷ tail), k, type_no_void u, type_read u tail, types_no_word ts (Mark 59 ∷ rest), all_types_read ts (Mark 59 ∷ rest)) refl
-item_read (Defined f) rest h = defined_read f.result f.name f.params f.locals f.body rest h.0 h.1 h.2 h.3
+item_read (defined f) rest h = defined_read f.result f.name f.params f.locals f.code rest h.0 h.1 h.2 h.3
 
-item_no_end : (i : CItem) (rest : List Token) → at_end (item_tokens (item_of i) rest) ≡ None
-item_no_end (Declared t name params) rest = refl
-item_no_end (Defined f) rest = refl
+item_no_end : (i : Item) (rest : List Token) → at_end (item_tokens i rest) ≡ None
+item_no_end (declared t name params) rest = refl
+item_no_end (defined f) rest = refl
 
-items_read : (is : List CItem) (n : ℕ) → NamedItems (items_of is) → length (items_tokens (items_of is) []) < n
-    → many item at_end n (items_tokens (items_of is) []) ≡ Some (is, [])
+items_read : (is : List Item) (n : ℕ) → NamedItems is → length (items_tokens is []) < n
+    → many item at_end n (items_tokens is []) ≡ Some (is, [])
 items_read is zero h l = absurd (omega arith)
 items_read [] (suc n) h l = nil_read item at_end n [] [] refl
 items_read (i ∷ is) (suc n) h l =
-    let tail = items_tokens (items_of is) [] in
-    let longer : length tail < length (item_tokens (item_of i) tail) = item_longer (item_of i) tail in
-    cons_read item at_end n (item_tokens (item_of i) tail) i tail is [] (item_no_end i tail) (item_read i tail h.0) (items_read is n h.1 (omega arith))
+    let tail = items_tokens is [] in
+    let longer : length tail < length (item_tokens i tail) = item_longer i tail in
+    cons_read item at_end n (item_tokens i tail) i tail is [] (item_no_end i tail) (item_read i tail h.0) (items_read is n h.1 (omega arith))
 
-pub parsed_read : (is : List CItem) → NamedItems (items_of is) → parsed (items_tokens (items_of is) []) ≡ Some (is, [])
+pub parsed_read : (is : List Item) → NamedItems is → parsed (items_tokens is []) ≡ Some (is, [])
 unfolding all
-parsed_read is h = items_read is (suc (length (items_tokens (items_of is) []))) h (omega arith)
+parsed_read is h = items_read is (suc (length (items_tokens is []))) h (omega arith)

@@ -4,7 +4,7 @@ use Rattle.std.proofs.lemmas.List.{drop_more}
 use Rattle.c_tree.specs.declared.tree.Token.{Token}
 use Rattle.c_tree.specs.declared.tree.Token.TheVariants.{Bad}
 use Rattle.c_tree.specs.Lexical.{Quoted, spelled_at, onto_quoted, spelled_then, quoted_from, Lexeme, lexeme, emit, tokens_from}
-use Rattle.c_read.specs.declared.lex.Piece.{Piece}
+use Rattle.c_read.specs.declared.lex.StringByte.{StringByte}
 use Rattle.c_read.specs.Scans.{quoted_onto, spelled_of, is_bad, has_bad}
 
 -- Tokens
@@ -50,10 +50,10 @@ onto_onto bytes n b s (Some q) =
     ap (λ bs. Some (record { bytes = bs; size = n + s + q.size })) (append_assoc bytes (b ∷ []) q.bytes)
     ∙ ap (λ m. Some (record { bytes = bytes ++ b ∷ q.bytes; size = m })) (add_assoc n s q.size)
 
-pub quote_pieced : (rest bytes : List ℕ) (i skip : ℕ) (p : Piece) → i < length rest → skip ≡ 0 → nat_eq (get_or rest i 0) 34 ≡ false
+pub quote_coded : (rest bytes : List ℕ) (i skip : ℕ) (p : StringByte) → i < length rest → skip ≡ 0 → nat_eq (get_or rest i 0) 34 ≡ false
     → spelled_of (Some p) ≡ spelled_at (get_or rest i 0) (drop (i + 1) rest)
     → quoted_onto (bytes ++ p.byte ∷ []) (i + 1 + p.more) (quoted_from p.more (drop (i + 1) rest)) ≡ quoted_onto bytes (i + skip) (quoted_from skip (drop i rest))
-quote_pieced rest bytes i skip p h z ne e =
+quote_coded rest bytes i skip p h z ne e =
     let b = get_or rest i 0 in
     let bs = drop (i + 1) rest in
     let n : i + 1 + p.more ≡ i + skip + (p.more + 1) = omega arith in

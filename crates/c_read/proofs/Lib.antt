@@ -4,6 +4,8 @@ pub mod Forward
 pub mod Lexing
 pub mod Loops
 pub mod Many
+pub mod Nesting
 pub mod Numbers
 pub mod Operations
+pub mod PieceLoop
 pub mod Reading

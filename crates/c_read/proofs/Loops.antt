@@ -1,23 +1,21 @@
 -- One more in a list, as it is spelled.
-use Rattle.std.proofs.Common.{◌≡◌, ◌<◌, List, [], ◌∷◌, ◌++◌, length, codes, refl, sym, ap, ◌∙◌, arith}
+use Rattle.std.proofs.Common.{◌≡◌, ◌<◌, List, [], ◌∷◌, ◌++◌, length, Some, None, refl, sym, ap, ◌∙◌, arith}
+use Rattle.std.proofs.lemmas.List.{map-append}
 use Rattle.std.specs.Prelude.{IsTrue}
 use Rattle.c_tree.specs.declared.tree.CTy.{CTy}
 use Rattle.c_tree.specs.declared.tree.CArg.{CArg}
-use Rattle.c_tree.specs.declared.tree.CStmt.{CStmt}
-use Rattle.c_tree.specs.declared.tree.CStmt.TheVariants as stmt
 use Rattle.c_tree.specs.declared.tree.CVar.{CVar}
-use Rattle.c_tree.specs.declared.tree.CItem.{CItem}
+use Rattle.c_tree.specs.declared.function.CItem.{CItem}
 use Rattle.c_tree.specs.declared.tree.Token.{Token}
 use Rattle.c_tree.specs.declared.tree.Token.TheVariants.{Word, Mark}
 use Rattle.c_tree.specs.Names.{is_local_name}
-use Rattle.c_tree.specs.Code.{Item, declared, defined, item_of, items_of}
+use Rattle.c_tree.specs.Code.{Item, declared, defined}
+use Rattle.c_tree.specs.Functions.{item_of, items_of}
 use Rattle.c_tree.specs.Spelling.{
   type_text,
   argument_token,
   more_arguments,
   argument_tokens,
-  call_tokens,
-  expr_tokens,
   code_tokens,
   more_types,
   type_tokens,
@@ -28,15 +26,12 @@ use Rattle.c_tree.specs.Spelling.{
   items_tokens,
   NamedArgument,
   NamedArguments,
-  NamedCode,
   NamedVars,
   NamedItem,
   NamedItems,
 }
-use Rattle.c_read.specs.Yields.{code_from}
 use Rattle.c_read.specs.Productions.{at_end}
-use Rattle.std.proofs.Common.{Some, None}
-use Rattle.c_read.proofs.Extends.{code_extends, call_extends, expr_extends, types_extends, params_extends, locals_extends}
+use Rattle.c_read.proofs.Extends.{code_extends, types_extends, params_extends, locals_extends}
 
 pub fewer : (old new : List Token) (t : Token) → old ≡ t ∷ new → length new < length old
 fewer old new t e = let l : length old ≡ length (t ∷ new) = ap length e in omega arith
@@ -89,28 +84,6 @@ pub named_vars_more : (vs : List CVar) (v : CVar) → NamedVars vs → IsTrue (i
 named_vars_more [] v h k = (k, tt)
 named_vars_more (u ∷ vs) v h k = (h.0, named_vars_more vs v h.1 k)
 
--- Statements
-
-pub code_more : (ss : List CStmt) (s : CStmt) (rest : List Token) → code_tokens (code_from (ss ++ s ∷ [])) rest ≡ code_tokens (code_from ss) (code_tokens (code_from (s ∷ [])) rest)
-code_more [] s rest = refl
-code_more (stmt.Assign x e ∷ ss) s rest = ap (λ ts. Word x ∷ Mark 61 ∷ expr_tokens e (Mark 59 ∷ ts)) (code_more ss s rest)
-code_more (stmt.Call c ∷ ss) s rest = ap (λ ts. call_tokens c (Mark 59 ∷ ts)) (code_more ss s rest)
-code_more (stmt.Return e ∷ ss) s rest = ap (λ ts. Word (codes "return") ∷ expr_tokens e (Mark 59 ∷ ts)) (code_more ss s rest)
-
-pub named_code_more : (ss : List CStmt) (s : CStmt) → NamedCode (code_from ss) → NamedCode (code_from (s ∷ [])) → NamedCode (code_from (ss ++ s ∷ []))
-named_code_more [] s h k = k
-named_code_more (stmt.Assign x e ∷ ss) s h k = (h.0, h.1, named_code_more ss s h.2 k)
-named_code_more (stmt.Call c ∷ ss) s h k = (h.0, named_code_more ss s h.1 k)
-named_code_more (stmt.Return e ∷ ss) s h k = (h.0, named_code_more ss s h.1 k)
-
-pub statement_longer : (s : CStmt) (rest : List Token) → length rest < length (code_tokens (code_from (s ∷ [])) rest)
-statement_longer (stmt.Assign x e) rest = omega (arith, (expr_extends e (Mark 59 ∷ rest)).longer)
-statement_longer (stmt.Call c) rest = omega (arith, (call_extends c (Mark 59 ∷ rest)).longer)
-statement_longer (stmt.Return e) rest = omega (arith, (expr_extends e (Mark 59 ∷ rest)).longer)
-
-pub statement_fewer : (old new : List Token) (s : CStmt) → old ≡ code_tokens (code_from (s ∷ [])) new → length new < length old
-statement_fewer old new s e = rw e (statement_longer s new)
-
 -- Items
 
 pub items_more : (is : List CItem) (i : CItem) (rest : List Token) → items_tokens (items_of (is ++ i ∷ [])) rest ≡ items_tokens (items_of is) (item_tokens (item_of i) rest)
@@ -132,13 +105,10 @@ item_longer (defined f) rest =
 pub item_fewer : (old new : List Token) (i : Item) → old ≡ item_tokens i new → length new < length old
 item_fewer old new i e = rw e (item_longer i new)
 
+pub items_of_more : (is is' : List CItem) (i : CItem) → is' ≡ is ++ i ∷ [] → items_of is' ≡ items_of is ++ item_of i ∷ []
+items_of_more is is' i e = ap items_of e ∙ map-append item_of is (i ∷ [])
+
 -- The lists as a loop has them
-
-abbrev pub spelled_code : List CStmt → List Token → List Token
-spelled_code ss rest = code_tokens (code_from ss) rest
-
-abbrev pub NamedStmts : List CStmt → Type 0
-NamedStmts ss = NamedCode (code_from ss)
 
 abbrev pub spelled_items : List CItem → List Token → List Token
 spelled_items is rest = items_tokens (items_of is) rest

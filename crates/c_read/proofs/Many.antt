@@ -11,7 +11,7 @@ pub onto-nil : {X : Type 0} (r : Option (List X × List Token)) → onto [] r �
 onto-nil None = refl
 onto-nil (Some r) = refl
 
-onto-onto : {X : Type 0} (xs : List X) (x : X) (r : Option (List X × List Token)) → onto xs (onto (x ∷ []) r) ≡ onto (xs ++ x ∷ []) r
+pub onto-onto : {X : Type 0} (xs : List X) (x : X) (r : Option (List X × List Token)) → onto xs (onto (x ∷ []) r) ≡ onto (xs ++ x ∷ []) r
 onto-onto xs x None = refl
 onto-onto xs x (Some r) = ap (λ ys. Some (ys, r.1)) (sym (append_assoc xs (x ∷ []) r.0))
 

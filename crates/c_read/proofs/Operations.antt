@@ -3,9 +3,9 @@ use Rattle.std.proofs.Common.{◌≡◌, ℕ, List, Bool, true, false, if◌then
 use Rattle.std.specs.Option.{IfSome}
 use Rattle.std.specs.Cmp.Lexicographic.{pointwise}
 use Rattle.std.proofs.lemmas.Slice.Eq.{bytes_eq-Decides}
-use Rattle.prim_table.specs.declared.primitives.Primitive.TheVariants.{Add, Display, Newline}
+use Rattle.prim_table.specs.declared.primitives.Primitive.TheVariants.{Add, Less, Display, Newline}
 use Rattle.c_tree.specs.declared.op.Op.{Op}
-use Rattle.c_tree.specs.declared.op.Op.TheVariants.{BoxLong, UnboxLong, Raise, Args, Status, Primitive as Does}
+use Rattle.c_tree.specs.declared.op.Op.TheVariants.{BoxLong, BoxBool, UnboxLong, Truth, Raise, Args, Status, Primitive as Does}
 use Rattle.c_tree.specs.Operations.{op_text, is_op, op_named}
 
 is_op_text : (word : List ℕ) (o : Op) (other : Option Op) (op : Op) → (other ≡ Some op → word ≡ op_text op) → is_op word o other ≡ Some op → word ≡ op_text op
@@ -20,14 +20,15 @@ unfolding op_named
 operation_text word op =
     let newline = is_op word (Does Newline) None in
     let display = is_op word (Does Display) newline in
-    let add = is_op word (Does Add) display in
+    let less = is_op word (Does Less) display in
+    let add = is_op word (Does Add) less in
     let status = is_op word Status add in
     let args = is_op word Args status in
     let raise = is_op word Raise args in
-    let unbox = is_op word UnboxLong raise in
-    is_op_text word BoxLong unbox op (is_op_text word UnboxLong raise op (is_op_text word Raise args op (is_op_text word Args status op
-    (is_op_text word Status add op (is_op_text word (Does Add) display op (is_op_text word (Does Display) newline op
-    (is_op_text word (Does Newline) None op (λ e. absurd (cc)))))))))
+    let truth = is_op word Truth raise in
+    let unbox = is_op word UnboxLong truth in
+    let bool = is_op word BoxBool unbox in
+    is_op_text word BoxLong bool op (is_op_text word BoxBool unbox op (is_op_text word UnboxLong truth op (is_op_text word Truth raise op (is_op_text word Raise args op (is_op_text word Args status op (is_op_text word Status add op (is_op_text word (Does Add) less op (is_op_text word (Does Less) display op (is_op_text word (Does Display) newline op (is_op_text word (Does Newline) None op (λ e. absurd (cc))))))))))))
 
 pub operation_answer : (word : List ℕ) (r : Option Op) → r ≡ op_named word → IfSome r (λ op. word ≡ op_text op)
 operation_answer word None e = tt

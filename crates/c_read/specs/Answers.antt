@@ -1,9 +1,10 @@
 -- What reading a C text answers.
 use Rattle.std.specs.Prelude.{◌≡◌, ℕ, List, Result, Ok, Err}
-use Rattle.c_tree.specs.Code.{Item, items_of}
+use Rattle.c_tree.specs.Code.{Item}
+use Rattle.c_tree.specs.Functions.{items_of}
 use Rattle.c_tree.specs.Spelling.{CText}
-use Rattle.c_tree.specs.declared.tree.CProgram.{CProgram}
-use Rattle.c_tree.specs.declared.tree.CUnit.{CUnit}
+use Rattle.c_tree.specs.declared.function.CProgram.{CProgram}
+use Rattle.c_tree.specs.declared.function.CUnit.{CUnit}
 use Rattle.c_read.specs.declared.read.CReadErr.{CReadErr}
 use Rattle.c_read.specs.declared.read.CReadErr.TheVariants.{NotC, Memory}
 

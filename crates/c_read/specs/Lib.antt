@@ -1,4 +1,5 @@
 pub mod Answers
+pub mod Nesting
 pub mod Productions
 pub mod Reading
 pub mod Scans

@@ -1,5 +1,5 @@
 -- What each production of the C grammar reads.
-use Rattle.std.specs.Prelude.{ℕ, List, [], ◌∷◌, codes, Bool, true, if◌then◌else◌, Option, Some, None}
+use Rattle.std.specs.Prelude.{ℕ, zero, suc, ◌-◌, List, [], ◌∷◌, length, codes, nat_eq, Bool, true, if◌then◌else◌, Option, Some, None}
 use Rattle.std.specs.Option.{is_some}
 use Rattle.c_tree.specs.declared.tree.CTy.{CTy}
 use Rattle.c_tree.specs.declared.tree.CArg.{CArg}
@@ -7,18 +7,16 @@ use Rattle.c_tree.specs.declared.tree.CArg.TheVariants as arg
 use Rattle.c_tree.specs.declared.tree.CCall.{CCall}
 use Rattle.c_tree.specs.declared.tree.CExpr.{CExpr}
 use Rattle.c_tree.specs.declared.tree.CExpr.TheVariants as expr
-use Rattle.c_tree.specs.declared.tree.CStmt.{CStmt}
-use Rattle.c_tree.specs.declared.tree.CStmt.TheVariants as stmt
-use Rattle.c_tree.specs.declared.tree.CBody.{CBody}
-use Rattle.c_tree.specs.declared.tree.CBody.TheVariants.{Straight, Looped}
 use Rattle.c_tree.specs.declared.tree.CVar.{CVar}
-use Rattle.c_tree.specs.declared.tree.CItem.{CItem}
-use Rattle.c_tree.specs.declared.tree.CItem.TheVariants.{Declared, Defined}
+use Rattle.c_tree.specs.declared.pieces.Piece.{Piece}
+use Rattle.c_tree.specs.declared.pieces.Piece.TheVariants as piece
+use Rattle.c_tree.specs.Code.{Code, Item, declared, defined}
 use Rattle.c_tree.specs.declared.tree.Token.{Token}
 use Rattle.c_tree.specs.declared.tree.Token.TheVariants.{Word, Mark, Str, Bad}
 use Rattle.c_tree.specs.Names.{is_function_name, is_local_name, is_label_name}
 use Rattle.c_read.specs.Sequences.{after, on_rest, read_as, if_else, after_mark, word_first, named, is_first, onto, all}
-use Rattle.c_read.specs.Words.{type_of, atom_of, callee_of, is_text, is_return}
+use Rattle.c_read.specs.Words.{type_of, atom_of, callee_of, is_text, is_return, is_if, is_else}
+use Rattle.c_read.specs.Nesting.{code_in}
 
 -- Calls -------------------------------------------------------------------------------------
 
@@ -42,57 +40,88 @@ abbrev pub call_of : List ℕ → List Token → Option (CCall × List Token)
 call_of word tokens =
     after (read_as (callee_of word) tokens) (λ callee rest. after (arguments rest) (λ args left. Some (record { callee = callee; args = args }, left)))
 
--- a call to its semicolon, after its name and the opening parenthesis
-unfoldable pub ended_call : List ℕ → List Token → Option (CCall × List Token)
-ended_call word tokens = after (call_of word tokens) (λ c rest. on_rest (after_mark 59 rest) (λ left. Some (c, left)))
+abbrev pub atom_alone : List ℕ → List Token → Option (CExpr × List Token)
+atom_alone word tokens = after (read_as (atom_of word) tokens) (λ a left. Some (expr.Atom a, left))
 
-abbrev pub ended_atom : List ℕ → List Token → Option (CExpr × List Token)
-ended_atom word tokens = on_rest (after_mark 59 tokens) (λ rest. after (read_as (atom_of word) rest) (λ a left. Some (expr.Atom a, left)))
-
--- to the semicolon
 unfoldable pub expression : List Token → Option (CExpr × List Token)
 expression tokens =
-    after (word_first tokens) (λ w rest.
-    if_else (after_mark 40 rest) (λ inner. after (ended_call w inner) (λ c left. Some (expr.Call c, left))) (ended_atom w rest))
+    after (word_first tokens) (λ w rest. if_else (after_mark 40 rest) (λ inner. after (call_of w inner) (λ c left. Some (expr.Call c, left))) (atom_alone w rest))
 
 -- Statements --------------------------------------------------------------------------------
 
-abbrev pub returned : List Token → Option (CStmt × List Token)
-returned tokens = after (expression tokens) (λ e left. Some (stmt.Return e, left))
+-- after `return`
+abbrev pub returned : List Token → Option (Piece × List Token)
+returned tokens = after (expression tokens) (λ e rest. on_rest (after_mark 59 rest) (λ left. Some (piece.Return e, left)))
 
-abbrev pub assigned : List ℕ → List Token → Option (CStmt × List Token)
-assigned word tokens = if is_local_name word then after (expression tokens) (λ e left. Some (stmt.Assign word e, left)) else None
+-- after the local and `=`
+abbrev pub assigned : List ℕ → List Token → Option (Piece × List Token)
+assigned word tokens =
+    if is_local_name word then after (expression tokens) (λ e rest. on_rest (after_mark 59 rest) (λ left. Some (piece.Assign word e, left))) else None
 
-abbrev pub called : List ℕ → List Token → Option (CStmt × List Token)
-called word tokens = on_rest (after_mark 40 tokens) (λ inner. after (ended_call word inner) (λ c left. Some (stmt.Call c, left)))
+abbrev pub called : List ℕ → List Token → Option (Piece × List Token)
+called word tokens = on_rest (after_mark 40 tokens) (λ inner. after (call_of word inner) (λ c rest. on_rest (after_mark 59 rest) (λ left. Some (piece.Call c, left))))
 
-abbrev pub statement_of : List ℕ → List Token → Option (CStmt × List Token)
-statement_of word tokens = if is_return word then returned tokens else if_else (after_mark 61 tokens) (assigned word) (called word tokens)
-
-unfoldable pub statement : List Token → Option (CStmt × List Token)
-statement tokens = after (word_first tokens) statement_of
-
--- to the closing brace
-abbrev pub block : List Token → Option (List CStmt × List Token)
-block tokens = all statement (after_mark 125) tokens
+-- `( expression ) {`, after `if`
+unfoldable pub condition : List Token → Option (Piece × List Token)
+condition tokens =
+    on_rest (after_mark 40 tokens) (λ inner. after (expression inner) (λ e rest. on_rest (after_mark 41 rest) (λ more. on_rest (after_mark 123 more) (λ left. Some (piece.If e, left)))))
 
 abbrev pub after_for : List Token → Option (List Token)
 after_for tokens = after (word_first tokens) (λ w rest. if is_text w (codes "for") then Some rest else None)
 
--- `: for ( ; ; ) {`
+-- `for ( ; ; ) {`
 unfoldable pub after_head : List Token → Option (List Token)
 after_head tokens =
-    on_rest (after_mark 58 tokens) (λ a. on_rest (after_for a) (λ b. on_rest (after_mark 40 b) (λ c. on_rest (after_mark 59 c) (λ d.
-    on_rest (after_mark 59 d) (λ e. on_rest (after_mark 41 e) (λ f. after_mark 123 f))))))
+    on_rest (after_for tokens) (λ a. on_rest (after_mark 40 a) (λ b. on_rest (after_mark 59 b) (λ c. on_rest (after_mark 59 c) (λ d. on_rest (after_mark 41 d) (λ e. after_mark 123 e)))))
 
-unfoldable pub looped : List Token → Option (CBody × List Token)
-looped tokens =
-    after (named is_label_name tokens) (λ l rest. on_rest (after_head rest) (λ inner.
-    after (block inner) (λ ss more. on_rest (after_mark 125 more) (λ left. Some (Looped l ss, left)))))
+-- after the label and its colon
+abbrev pub looped : List ℕ → List Token → Option (Piece × List Token)
+looped word tokens = if is_label_name word then on_rest (after_head tokens) (λ left. Some (piece.Loop word, left)) else None
+
+-- after a first word that names something
+unfoldable pub named_statement : List ℕ → List Token → Option (Piece × List Token)
+named_statement word tokens = if_else (after_mark 61 tokens) (assigned word) (if_else (after_mark 58 tokens) (looped word) (called word tokens))
+
+abbrev pub statement_of : List ℕ → List Token → Option (Piece × List Token)
+statement_of word tokens = if is_return word then returned tokens else (if is_if word then condition tokens else named_statement word tokens)
+
+unfoldable pub statement : List Token → Option (Piece × List Token)
+statement tokens = after (word_first tokens) statement_of
+
+-- after a closing brace
+unfoldable pub closing : List Token → Option (Piece × List Token)
+closing tokens =
+    if is_first is_else tokens then after (word_first tokens) (λ w rest. on_rest (after_mark 123 rest) (λ left. Some (piece.Else, left))) else Some (piece.End, tokens)
+
+unfoldable pub next_piece : List Token → Option (Piece × List Token)
+next_piece tokens = if_else (after_mark 125 tokens) closing (statement tokens)
+
+-- how many blocks are open after a piece
+abbrev pub depth_after : ℕ → Piece → ℕ
+depth_after depth (piece.Assign x e) = depth
+depth_after depth (piece.Call c) = depth
+depth_after depth (piece.Return e) = depth
+depth_after depth (piece.If e) = suc depth
+depth_after depth piece.Else = depth
+depth_after depth (piece.Loop l) = suc depth
+depth_after depth piece.End = depth - 1
+
+-- the closing brace of the function
+abbrev pub after_body : ℕ → List Token → Option (List Token)
+after_body depth tokens = if nat_eq depth 0 then after_mark 125 tokens else None
+
+-- pieces until the function's closing brace, at most so many, where so many blocks are open
+unfoldable pub pieces_within : ℕ → ℕ → List Token → Option (List Piece × List Token)
+pieces_within zero depth tokens = None
+pieces_within (suc most) depth tokens =
+    if_else (after_body depth tokens) (λ left. Some ([], left)) (after (next_piece tokens) (λ p rest. onto (p ∷ []) (pieces_within most (depth_after depth p) rest)))
+
+unfoldable pub all_pieces : List Token → Option (List Piece × List Token)
+all_pieces tokens = pieces_within (suc (length tokens)) 0 tokens
 
 -- a function's statements, to its closing brace
-unfoldable pub body : List Token → Option (CBody × List Token)
-body tokens = if is_first is_label_name tokens then looped tokens else after (block tokens) (λ ss left. Some (Straight ss, left))
+unfoldable pub body : List Token → Option (Code × List Token)
+body tokens = after (all_pieces tokens) (λ ps rest. read_as (code_in ps) rest)
 
 -- Items -------------------------------------------------------------------------------------
 
@@ -122,21 +151,21 @@ abbrev pub locals : List Token → Option (List CVar × List Token)
 locals tokens = all local no_type tokens
 
 -- the rest of a definition, after the opening brace
-unfoldable pub definition : CTy → List ℕ → List CVar → List Token → Option (CItem × List Token)
+unfoldable pub definition : CTy → List ℕ → List CVar → List Token → Option (Item × List Token)
 definition t name params tokens =
-    after (locals tokens) (λ vs rest. after (body rest) (λ b left. Some (Defined (record { result = t; name = name; params = params; locals = vs; body = b }), left)))
+    after (locals tokens) (λ vs rest. after (body rest) (λ c left. Some (defined (record { result = t; name = name; params = params; locals = vs; code = c }), left)))
 
 -- after `void )`
-unfoldable pub without_params : CTy → List ℕ → List Token → Option (CItem × List Token)
+unfoldable pub without_params : CTy → List ℕ → List Token → Option (Item × List Token)
 without_params t name tokens =
-    if_else (after_mark 59 tokens) (λ left. Some (Declared t name [], left)) (on_rest (after_mark 123 tokens) (definition t name []))
+    if_else (after_mark 59 tokens) (λ left. Some (declared t name [], left)) (on_rest (after_mark 123 tokens) (definition t name []))
 
 -- after the first type
-unfoldable pub with_types : CTy → List ℕ → CTy → List Token → Option (CItem × List Token)
+unfoldable pub with_types : CTy → List ℕ → CTy → List Token → Option (Item × List Token)
 with_types t name one tokens =
-    after (onto (one ∷ []) (all next_type (after_mark 41) tokens)) (λ types rest. on_rest (after_mark 59 rest) (λ left. Some (Declared t name types, left)))
+    after (onto (one ∷ []) (all next_type (after_mark 41) tokens)) (λ types rest. on_rest (after_mark 59 rest) (λ left. Some (declared t name types, left)))
 
-unfoldable pub with_names : CTy → List ℕ → CTy → List Token → Option (CItem × List Token)
+unfoldable pub with_names : CTy → List ℕ → CTy → List Token → Option (Item × List Token)
 with_names t name one tokens =
     after (named is_local_name tokens) (λ x rest. after (onto (record { ty = one; name = x } ∷ []) (all next_variable (after_mark 41) rest)) (λ params more.
     on_rest (after_mark 123 more) (definition t name params)))
@@ -144,7 +173,7 @@ with_names t name one tokens =
 abbrev pub any_word : List ℕ → Bool
 any_word word = true
 
-unfoldable pub with_params : CTy → List ℕ → List Token → Option (CItem × List Token)
+unfoldable pub with_params : CTy → List ℕ → List Token → Option (Item × List Token)
 with_params t name tokens =
     after (type_first tokens) (λ one rest. if is_first any_word rest then with_names t name one rest else with_types t name one rest)
 
@@ -152,16 +181,16 @@ abbrev pub is_void : List ℕ → Bool
 is_void word = is_text word (codes "void")
 
 -- after the opening parenthesis
-unfoldable pub item_rest : CTy → List ℕ → List Token → Option (CItem × List Token)
+unfoldable pub item_rest : CTy → List ℕ → List Token → Option (Item × List Token)
 item_rest t name tokens =
     if is_first is_void tokens then after (word_first tokens) (λ w rest. on_rest (after_mark 41 rest) (without_params t name)) else with_params t name tokens
 
-unfoldable pub item : List Token → Option (CItem × List Token)
+unfoldable pub item : List Token → Option (Item × List Token)
 item tokens = after (type_first tokens) (λ t a. after (named is_function_name a) (λ name b. on_rest (after_mark 40 b) (item_rest t name)))
 
 abbrev pub at_end : List Token → Option (List Token)
 at_end [] = Some []
 at_end (t ∷ ts) = None
 
-abbrev pub parsed : List Token → Option (List CItem × List Token)
+abbrev pub parsed : List Token → Option (List Item × List Token)
 parsed tokens = all item at_end tokens

@@ -1,8 +1,8 @@
 -- What reading the items of a text answers.
 use Rattle.std.specs.Prelude.{ℕ, List, Result, Ok, Err}
-use Rattle.c_tree.specs.Code.{items_of}
+use Rattle.c_tree.specs.Functions.{items_of}
 use Rattle.c_tree.specs.Spelling.{CText}
-use Rattle.c_tree.specs.declared.tree.CItem.{CItem}
+use Rattle.c_tree.specs.declared.function.CItem.{CItem}
 use Rattle.c_read.specs.declared.read.CReadErr.{CReadErr}
 use Rattle.c_read.specs.declared.read.CReadErr.TheVariants.{NotC, Memory}
 use Rattle.c_read.specs.Answers.{HasNoTree}

@@ -3,7 +3,7 @@ use Rattle.std.specs.Prelude.{◌≡◌, ℕ, ◌+◌, List, [], ◌∷◌, ◌+
 use Rattle.c_tree.specs.declared.tree.Token.{Token}
 use Rattle.c_tree.specs.declared.tree.Token.TheVariants.{Word, Mark, Str, Bad}
 use Rattle.c_tree.specs.Lexical.{is_octal, is_coded, octal_value, Spelled, Quoted, Lexeme, Lexed, Gap, tokens}
-use Rattle.c_read.specs.declared.lex.Piece.{Piece}
+use Rattle.c_read.specs.declared.lex.StringByte.{StringByte}
 use Rattle.c_read.specs.declared.lex.Quote.{Quote}
 use Rattle.c_read.specs.declared.lex.Scan.{Scan}
 use Rattle.c_read.specs.declared.lex.Scan.TheVariants as scan
@@ -13,7 +13,7 @@ use Rattle.c_read.specs.declared.read.CReadErr.TheVariants.{NotC, Memory}
 abbrev pub octal_byte : ℕ → ℕ → ℕ → Option ℕ
 octal_byte a b c = if is_octal a && (is_octal b && (is_octal c && is_coded (octal_value a b c))) then Some (octal_value a b c) else None
 
-abbrev pub spelled_of : Option Piece → Option Spelled
+abbrev pub spelled_of : Option StringByte → Option Spelled
 spelled_of None = None
 spelled_of (Some p) = Some (record { byte = p.byte; size = p.more + 1 })
 

@@ -75,6 +75,12 @@ Took read (Ok x) left = read ≡ Some (x, left)
 Took read (Err NotC) left = read ≡ None
 Took read (Err Memory) left = Unit {0}
 
+-- the same, where what is read is a view of what is answered
+abbrev pub TookAs : {X Y : Type 0} → (Y → X) → Option (X × List Token) → Result Y CReadErr → List Token → Type 0
+TookAs view read (Ok y) left = read ≡ Some (view y, left)
+TookAs view read (Err NotC) left = read ≡ None
+TookAs view read (Err Memory) left = Unit {0}
+
 abbrev pub Skipped : {X : Type 0} → Option (List Token) → Result X CReadErr → List Token → Type 0
 Skipped read (Ok x) left = read ≡ Some left
 Skipped read (Err NotC) left = read ≡ None

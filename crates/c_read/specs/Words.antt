@@ -59,3 +59,9 @@ callee_of word = if is_function_name word then Some (callee.Fun word) else optio
 
 abbrev pub is_return : List ℕ → Bool
 is_return word = is_text word (codes "return")
+
+abbrev pub is_if : List ℕ → Bool
+is_if word = is_text word (codes "if")
+
+abbrev pub is_else : List ℕ → Bool
+is_else word = is_text word (codes "else")

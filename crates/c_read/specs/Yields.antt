@@ -1,18 +1,20 @@
 -- What was read from the front of some tokens, with its names, as the grammar spells it.
-use Rattle.std.specs.Prelude.{◌≡◌, ℕ, List, [], ◌∷◌, codes, IsTrue}
+use Rattle.std.specs.Prelude.{◌≡◌, ℕ, List, ◌∷◌, codes, IsTrue}
 use Rattle.c_tree.specs.declared.tree.CTy.{CTy}
 use Rattle.c_tree.specs.declared.tree.CArg.{CArg}
 use Rattle.c_tree.specs.declared.tree.CCall.{CCall}
 use Rattle.c_tree.specs.declared.tree.CExpr.{CExpr}
-use Rattle.c_tree.specs.declared.tree.CStmt.{CStmt}
-use Rattle.c_tree.specs.declared.tree.CBody.{CBody}
 use Rattle.c_tree.specs.declared.tree.CVar.{CVar}
-use Rattle.c_tree.specs.declared.tree.CItem.{CItem}
+use Rattle.c_tree.specs.declared.pieces.Piece.{Piece}
+use Rattle.c_tree.specs.declared.laying.Layout.{Layout}
+use Rattle.c_tree.specs.declared.function.CItem.{CItem}
 use Rattle.c_tree.specs.declared.tree.Token.{Token}
 use Rattle.c_tree.specs.declared.tree.Token.TheVariants.{Word, Mark}
 use Rattle.c_tree.specs.Names.{is_function_name, is_local_name}
-use Rattle.c_tree.specs.Code.{Code, done, onto, code_of, item_of, items_of}
-use Rattle.c_tree.specs.Spelling.{type_text, argument_token, argument_tokens, call_tokens, expr_tokens, code_tokens, param_tokens, local_tokens, item_tokens, items_tokens, NamedArgument, NamedArguments, NamedCall, NamedExpr, NamedCode, NamedBody, NamedVars, NamedItem, NamedItems}
+use Rattle.c_tree.specs.Code.{Code}
+use Rattle.c_tree.specs.Layout.{code_of}
+use Rattle.c_tree.specs.Functions.{item_of, items_of}
+use Rattle.c_tree.specs.Spelling.{type_text, argument_token, argument_tokens, call_tokens, expr_tokens, code_tokens, piece_tokens, pieces_tokens, param_tokens, local_tokens, item_tokens, items_tokens, NamedArgument, NamedArguments, NamedCall, NamedExpr, NamedCode, NamedPiece, NamedPieces, NamedVars, NamedItem, NamedItems}
 
 abbrev pub YieldsArgument : List Token → CArg → List Token → Type 0
 YieldsArgument old a left = (old ≡ argument_token a ∷ left) × NamedArgument a
@@ -24,31 +26,28 @@ abbrev pub YieldsArguments : List Token → List CArg → List Token → Type 0
 YieldsArguments old args left = (old ≡ argument_tokens args left) × NamedArguments args
 
 abbrev pub YieldsCall : List Token → CCall → List Token → Type 0
-YieldsCall old c left = (old ≡ call_tokens c (Mark 59 ∷ left)) × NamedCall c
+YieldsCall old c left = (old ≡ call_tokens c left) × NamedCall c
 
 abbrev pub YieldsExpr : List Token → CExpr → List Token → Type 0
-YieldsExpr old e left = (old ≡ expr_tokens e (Mark 59 ∷ left)) × NamedExpr e
+YieldsExpr old e left = (old ≡ expr_tokens e left) × NamedExpr e
 
-abbrev pub code_from : List CStmt → Code
-code_from ss = onto ss done
+abbrev pub YieldsPiece : List Token → Piece → List Token → Type 0
+YieldsPiece old p left = (old ≡ piece_tokens p left) × NamedPiece p
 
-abbrev pub YieldsStmts : List Token → List CStmt → List Token → Type 0
-YieldsStmts old ss left = (old ≡ code_tokens (code_from ss) left) × NamedCode (code_from ss)
+abbrev pub YieldsPieces : List Token → List Piece → List Token → Type 0
+YieldsPieces old ps left = (old ≡ pieces_tokens ps left) × NamedPieces ps
 
-abbrev pub YieldsStmt : List Token → CStmt → List Token → Type 0
-YieldsStmt old s left = YieldsStmts old (s ∷ []) left
+abbrev pub laid_code : Layout → Code
+laid_code l = code_of l.stmts l.body
 
-abbrev pub YieldsBody : List Token → CBody → List Token → Type 0
-YieldsBody old b left = (old ≡ code_tokens (code_of b) (Mark 125 ∷ left)) × NamedBody (code_of b)
+abbrev pub YieldsBody : List Token → Layout → List Token → Type 0
+YieldsBody old l left = (old ≡ code_tokens (laid_code l) (Mark 125 ∷ left)) × NamedCode (laid_code l)
 
 abbrev pub head_tokens : List Token → List Token
-head_tokens left = Mark 58 ∷ Word (codes "for") ∷ Mark 40 ∷ Mark 59 ∷ Mark 59 ∷ Mark 41 ∷ Mark 123 ∷ left
+head_tokens left = Word (codes "for") ∷ Mark 40 ∷ Mark 59 ∷ Mark 59 ∷ Mark 41 ∷ Mark 123 ∷ left
 
 abbrev pub YieldsVar : List Token → CVar → List Token → Type 0
 YieldsVar old v left = (old ≡ Word (type_text v.ty) ∷ Word v.name ∷ left) × IsTrue (is_local_name v.name)
-
-abbrev pub YieldsParams : List Token → List CVar → List Token → Type 0
-YieldsParams old vs left = (old ≡ param_tokens vs left) × NamedVars vs
 
 abbrev pub YieldsLocals : List Token → List CVar → List Token → Type 0
 YieldsLocals old vs left = (old ≡ local_tokens vs left) × NamedVars vs

@@ -4,7 +4,7 @@ ghost use Rattle.c_tree.specs.declared.tree.Token.TheVariants.{Word, Mark};
 ghost use Rattle.c_tree.specs.Spelling.{argument_token, argument_tokens, NamedArgument, NamedArguments};
 ghost use Rattle.c_read.specs.Sequences.{Took, onto, all, after_mark};
 ghost use Rattle.c_read.specs.Yields.{YieldsArgument, YieldsNext, YieldsArguments, YieldsCall, YieldsExpr};
-ghost use Rattle.c_read.specs.Productions.{argument, next_argument, arguments, ended_call, ended_atom, expression};
+ghost use Rattle.c_read.specs.Productions.{argument, next_argument, arguments, call_of, expression};
 
 use crate::queue::Queue;
 use crate::read::CReadErr;
@@ -66,32 +66,19 @@ fn read_arguments(alloc: Global, tokens: &mut Queue<Token>) -> Result<List<CArg>
     read_more_arguments(alloc, tokens, first)
 }
 
-/// The rest of a call, to its semicolon.
-#[tactic(auto, unfolding(crate::specs::Productions::ended_call))]
+/// The rest of a call, to its closing parenthesis.
 pub fn read_call(alloc: Global, tokens: &mut Queue<Token>, word: Text) -> Result<CCall, CReadErr>
-    ensures read { Took (ended_call word tokens.old) result tokens.new }
+    ensures read { Took (call_of word tokens.old) result tokens.new }
     ensures spelled { IfOk result (λ x. YieldsCall (Word word ∷ Mark 40 ∷ tokens.old) x tokens.new) }
 {
     let Some(callee) = callee(word) else {
         return Err(CReadErr::NotC);
     };
     let args = read_arguments(alloc, tokens)?;
-    skip(tokens, b';')?;
     Ok(CCall { callee, args })
 }
 
-fn read_atom(tokens: &mut Queue<Token>, word: Text) -> Result<CExpr, CReadErr>
-    ensures read { Took (ended_atom word tokens.old) result tokens.new }
-    ensures spelled { IfOk result (λ x. YieldsExpr (Word word ∷ tokens.old) x tokens.new) }
-{
-    skip(tokens, b';')?;
-    match atom(word) {
-        Some(atom) => Ok(CExpr::Atom(atom)),
-        None => Err(CReadErr::NotC),
-    }
-}
-
-/// An expression to its semicolon.
+/// An expression.
 #[tactic(auto, unfolding(crate::specs::Productions::expression))]
 pub fn read_expression(alloc: Global, tokens: &mut Queue<Token>) -> Result<CExpr, CReadErr>
     ensures read { Took (expression tokens.old) result tokens.new }
@@ -102,5 +89,8 @@ pub fn read_expression(alloc: Global, tokens: &mut Queue<Token>) -> Result<CExpr
         let call = read_call(alloc, tokens, word)?;
         return Ok(CExpr::Call(call));
     }
-    read_atom(tokens, word)
+    match atom(word) {
+        Some(atom) => Ok(CExpr::Atom(atom)),
+        None => Err(CReadErr::NotC),
+    }
 }

@@ -2,9 +2,10 @@
 ghost use Rattle.std.specs.Prelude.{◌≡◌, ◌∷◌, [], IfOk, IsTrue, codes};
 ghost use Rattle.c_tree.specs.declared.tree.Token.TheVariants.{Word, Mark};
 ghost use Rattle.c_tree.specs.Names.{is_local_name};
+ghost use Rattle.c_tree.specs.Functions.{item_of, items_of};
 ghost use Rattle.c_tree.specs.Spelling.{type_text, type_tokens, param_tokens, NamedVars};
 ghost use Rattle.c_read.specs.Yields.{YieldsVar, YieldsLocals, YieldsDefinition, YieldsRest, YieldsItem, YieldsItems};
-ghost use Rattle.c_read.specs.Sequences.{Took, onto, all, after_mark};
+ghost use Rattle.c_read.specs.Sequences.{Took, TookAs, onto, all, after_mark};
 ghost use Rattle.c_read.specs.Productions.{
   next_type,
   variable,
@@ -28,7 +29,7 @@ use crate::skips::{
     function_name, is_type_next, is_void_next, is_word_next, local_name, skip, took, type_word,
     word,
 };
-use c_tree::{CFun, CItem, CTy, CVar, Token};
+use c_tree::{CFun, CItem, CTy, CVar, Layout, Token};
 use scheme_data::{List, Text};
 use std::alloc::Global;
 
@@ -120,17 +121,18 @@ fn read_definition(
     name: Text,
     params: List<CVar>,
 ) -> Result<CItem, CReadErr>
-    ensures read { Took (definition result_type name params tokens.old) result tokens.new }
+    ensures read { TookAs item_of (definition result_type name params tokens.old) result tokens.new }
     ensures spelled { IfOk result (λ i. YieldsDefinition result_type name params tokens.old i tokens.new) }
 {
     let locals = read_locals(alloc, tokens)?;
-    let body = read_body(alloc, tokens)?;
+    let Layout { body, stmts } = read_body(alloc, tokens)?;
     Ok(CItem::Defined(CFun {
         result: result_type,
         name,
         params,
         locals,
         body,
+        stmts,
     }))
 }
 
@@ -141,7 +143,7 @@ fn read_without_params(
     result_type: CTy,
     name: Text,
 ) -> Result<CItem, CReadErr>
-    ensures read { Took (without_params result_type name tokens.old) result tokens.new }
+    ensures read { TookAs item_of (without_params result_type name tokens.old) result tokens.new }
     ensures spelled { IfOk result (λ i. YieldsRest result_type name (Word (codes "void") ∷ Mark 41 ∷ tokens.old) i tokens.new) }
 {
     if took(tokens, b';') {
@@ -159,7 +161,7 @@ fn read_with_types(
     name: Text,
     first: CTy,
 ) -> Result<CItem, CReadErr>
-    ensures read { Took (with_types result_type name first tokens.old) result tokens.new }
+    ensures read { TookAs item_of (with_types result_type name first tokens.old) result tokens.new }
     ensures spelled { IfOk result (λ i. YieldsRest result_type name (Word (type_text first) ∷ tokens.old) i tokens.new) }
 {
     let types = read_types(alloc, tokens, first)?;
@@ -175,7 +177,7 @@ fn read_with_names(
     name: Text,
     first: CTy,
 ) -> Result<CItem, CReadErr>
-    ensures read { Took (with_names result_type name first tokens.old) result tokens.new }
+    ensures read { TookAs item_of (with_names result_type name first tokens.old) result tokens.new }
     ensures spelled { IfOk result (λ i. YieldsRest result_type name (Word (type_text first) ∷ tokens.old) i tokens.new) }
 {
     let first_name = local_name(tokens)?;
@@ -198,7 +200,7 @@ fn read_with_params(
     result_type: CTy,
     name: Text,
 ) -> Result<CItem, CReadErr>
-    ensures read { Took (with_params result_type name tokens.old) result tokens.new }
+    ensures read { TookAs item_of (with_params result_type name tokens.old) result tokens.new }
     ensures spelled { IfOk result (λ i. YieldsRest result_type name tokens.old i tokens.new) }
 {
     let first = type_word(tokens)?;
@@ -215,7 +217,7 @@ fn read_item_rest(
     result_type: CTy,
     name: Text,
 ) -> Result<CItem, CReadErr>
-    ensures read { Took (item_rest result_type name tokens.old) result tokens.new }
+    ensures read { TookAs item_of (item_rest result_type name tokens.old) result tokens.new }
     ensures spelled { IfOk result (λ i. YieldsRest result_type name tokens.old i tokens.new) }
 {
     if is_void_next(tokens) {
@@ -228,7 +230,7 @@ fn read_item_rest(
 
 #[tactic(auto, unfolding(crate::specs::Productions::item))]
 fn read_item(alloc: Global, tokens: &mut Queue<Token>) -> Result<CItem, CReadErr>
-    ensures read { Took (item tokens.old) result tokens.new }
+    ensures read { TookAs item_of (item tokens.old) result tokens.new }
     ensures spelled { IfOk result (λ x. YieldsItem tokens.old x tokens.new) }
 {
     let result_type = type_word(tokens)?;
@@ -239,7 +241,7 @@ fn read_item(alloc: Global, tokens: &mut Queue<Token>) -> Result<CItem, CReadErr
 
 /// All items.
 pub fn read_items(alloc: Global, tokens: &mut Queue<Token>) -> Result<List<CItem>, CReadErr>
-    ensures read { Took (parsed tokens.old) result tokens.new }
+    ensures read { TookAs items_of (parsed tokens.old) result tokens.new }
     ensures spelled { IfOk result (λ x. YieldsItems tokens.old x []) }
 {
     let mut items = List::new(alloc);

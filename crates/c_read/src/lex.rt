@@ -14,7 +14,7 @@ use std::alloc::Global;
 
 /// A byte of a string, with the number of the bytes that spell it, less the first.
 #[derive(Clone, Copy)]
-pub struct Piece {
+pub struct StringByte {
     pub byte: u8,
     pub more: usize,
 }
@@ -91,40 +91,40 @@ fn octal_of(a: u8, b: u8, c: u8) -> Option<u8>
     None
 }
 
-fn octal_piece(a: u8, rest: &[u8]) -> Option<Piece>
+fn octal_string_byte(a: u8, rest: &[u8]) -> Option<StringByte>
     ensures { spelled_of result ≡ octal_at a rest.now }
 {
     if rest.len() < 2 {
         return None;
     }
     let byte = octal_of(a, rest[0], rest[1])?;
-    Some(Piece { byte, more: 3 })
+    Some(StringByte { byte, more: 3 })
 }
 
 // after a backslash
-fn escaped_piece(rest: &[u8]) -> Option<Piece>
+fn escaped_string_byte(rest: &[u8]) -> Option<StringByte>
     ensures { spelled_of result ≡ escape_at rest.now }
 {
     if rest.is_empty() {
         return None;
     }
     if rest[0] == b'"' || rest[0] == b'\\' {
-        return Some(Piece {
+        return Some(StringByte {
             byte: rest[0],
             more: 1,
         });
     }
-    octal_piece(rest[0], &rest[1..])
+    octal_string_byte(rest[0], &rest[1..])
 }
 
-fn piece_at(b: u8, rest: &[u8]) -> Option<Piece>
+fn string_byte_at(b: u8, rest: &[u8]) -> Option<StringByte>
     ensures { spelled_of result ≡ spelled_at b rest.now }
 {
     if tells_plain(b) {
-        return Some(Piece { byte: b, more: 0 });
+        return Some(StringByte { byte: b, more: 0 });
     }
     if b == b'\\' {
-        return escaped_piece(rest);
+        return escaped_string_byte(rest);
     }
     None
 }
@@ -141,11 +141,11 @@ fn quoted(alloc: Global, rest: &[u8]) -> Result<Option<Quote>, OutOfMemory>
             if rest[i] == b'"' {
                 return Ok(Some(Quote { bytes, size: i + 1 }));
             }
-            let Some(piece) = piece_at(rest[i], &rest[i + 1..]) else {
+            let Some(coded) = string_byte_at(rest[i], &rest[i + 1..]) else {
                 return Ok(None);
             };
-            bytes.push(piece.byte)?;
-            skip = piece.more;
+            bytes.push(coded.byte)?;
+            skip = coded.more;
         }
     }
     Ok(None)

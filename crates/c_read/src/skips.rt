@@ -3,14 +3,15 @@ ghost use Rattle.std.specs.Prelude.{◌≡◌, ◌∷◌, MatchBool, OnOk, IfOk,
 ghost use Rattle.std.specs.Option.{option_copied, is_some};
 ghost use Rattle.c_tree.specs.declared.tree.Token.TheVariants.{Word, Mark};
 ghost use Rattle.c_tree.specs.Spelling.{type_text};
-ghost use Rattle.c_tree.specs.Names.{is_function_name, is_local_name, is_label_name};
+ghost use Rattle.c_tree.specs.Names.{is_function_name, is_local_name};
 ghost use Rattle.c_read.specs.Sequences.{Took, Skipped, after_mark, word_first, named, first_word, is_first};
+ghost use Rattle.c_read.specs.Words.{is_else};
 ghost use Rattle.c_read.specs.Productions.{after_for, is_type, any_word, is_void, type_first};
 
 use crate::queue::Queue;
 use crate::read::CReadErr;
 use crate::words::{has_text, type_by_name};
-use c_tree::{CTy, Token, names_function, names_label, names_local};
+use c_tree::{CTy, Token, names_function, names_local};
 use scheme_data::Text;
 
 /// Takes this mark, if it is next.
@@ -88,17 +89,6 @@ pub fn local_name(tokens: &mut Queue<Token>) -> Result<Text, CReadErr>
     Err(CReadErr::NotC)
 }
 
-pub fn label_name(tokens: &mut Queue<Token>) -> Result<Text, CReadErr>
-    ensures read { Took (named is_label_name tokens.old) result tokens.new }
-    ensures spelled { IfOk result (λ w. (tokens.old ≡ Word w ∷ tokens.new) × IsTrue (is_label_name w)) }
-{
-    let word = word(tokens)?;
-    if names_label(word.as_bytes()) {
-        return Ok(word);
-    }
-    Err(CReadErr::NotC)
-}
-
 #[tactic(auto, unfolding(crate::specs::Productions::type_first))]
 pub fn type_word(tokens: &mut Queue<Token>) -> Result<CTy, CReadErr>
     ensures read { Took (type_first tokens.old) result tokens.new }
@@ -135,11 +125,11 @@ pub fn is_type_next(tokens: &Queue<Token>) -> bool
     }
 }
 
-pub fn is_label_next(tokens: &Queue<Token>) -> bool
-    ensures { result ≡ is_first is_label_name tokens.now }
+pub fn is_else_next(tokens: &Queue<Token>) -> bool
+    ensures { result ≡ is_first is_else tokens.now }
 {
     match next_word(tokens) {
-        Some(word) => names_label(word.as_bytes()),
+        Some(word) => has_text(word.as_bytes(), b"else"),
         None => false,
     }
 }

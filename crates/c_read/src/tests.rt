@@ -1,5 +1,5 @@
 use crate::{CReadErr, read_c, read_unit};
-use c_tree::{CBody, CItem, CStmt};
+use c_tree::{CBlock, CItem, CStmt};
 
 const WHOLE: &[u8] = b"obj f_hello__go(obj, long);
 obj f_hello__go(obj x0, long x1) {
@@ -15,6 +15,19 @@ obj f_hello__go(obj x0, long x1) {
 int main(int x0, obj x1) {
   bgl_args(x0, x1);
   return 0;
+}
+";
+
+const BRANCH: &[u8] = b"obj f_a__b(obj x0) {
+  if (bgl_truth(x0)) {
+    x0 = BGL_NIL;
+  } else {
+    if (1) {
+    } else {
+      return x0;
+    }
+  }
+  return BGL_TRUE;
 }
 ";
 
@@ -41,19 +54,48 @@ fn unit(rt: &HostRuntime, text: &[u8]) -> Answer {
     }
 }
 
+fn block(first: u64, end: u64) -> CBlock {
+    CBlock { first, end }
+}
+
 fn is_the_loop(item: Option<&CItem>) -> bool {
     let Some(CItem::Defined(f)) = item else {
         return false;
     };
-    let CBody::Looped(label, statements) = &f.body else {
+    let Some(CStmt::Loop(label, inner)) = f.stmts.get(0) else {
         return false;
     };
-    let last = statements.get(3);
+    let last = f.stmts.get(4);
     f.params.len() == 2
         && f.locals.len() == 2
+        && f.body == block(0, 5)
+        && f.stmts.len() == 5
         && label.as_bytes() == b"L0".as_slice()
-        && statements.len() == 4
+        && *inner == block(1, 5)
         && matches!(last, Some(CStmt::Return(_)))
+}
+
+fn is_if(statement: Option<&CStmt>, first: CBlock, second: CBlock) -> bool {
+    match statement {
+        Some(CStmt::If(_, a, b)) => *a == first && *b == second,
+        _ => false,
+    }
+}
+
+fn is_the_branch(item: Option<&CItem>) -> bool {
+    let Some(CItem::Defined(f)) = item else {
+        return false;
+    };
+    let assigned = f.stmts.get(1);
+    let within = f.stmts.get(3);
+    let behind = f.stmts.get(4);
+    f.body == block(0, 5)
+        && f.stmts.len() == 5
+        && is_if(f.stmts.get(0), block(1, 2), block(2, 4))
+        && is_if(f.stmts.get(2), block(3, 3), block(3, 4))
+        && matches!(assigned, Some(CStmt::Assign(_, _)))
+        && matches!(within, Some(CStmt::Return(_)))
+        && matches!(behind, Some(CStmt::Return(_)))
 }
 
 #[test]
@@ -66,6 +108,14 @@ fn a_whole_program_is_read(rt: HostRuntime) -> Result<(), CReadErr> {
 }
 
 #[test]
+fn blocks_are_read_where_they_stand(rt: HostRuntime) -> Result<(), CReadErr> {
+    let program = read_c(rt.alloc(), BRANCH)?;
+    assert_eq!(rt; program.items.len(), 1);
+    assert!(rt; is_the_branch(program.items.get(0)));
+    Ok(())
+}
+
+#[test]
 fn texts_that_are_read(rt: HostRuntime) {
     let texts = [
         b"int main(void);".as_slice(),
@@ -74,6 +124,11 @@ fn texts_that_are_read(rt: HostRuntime) {
         b"int main(void){return -1152921504606846976;}".as_slice(),
         b"int main(void){}".as_slice(),
         b"obj f_a_2d__b_21(void){L10:for(;;){}}".as_slice(),
+        b"int main(void){if(x0){}else{}}".as_slice(),
+        b"int main(void){if(x0){return 1;}else{if(0){}else{}}bgl_args(x0);}".as_slice(),
+        b"int main(void){L0:for(;;){if(x0){L1:for(;;){}}else{x0=x1;}}}".as_slice(),
+        b"int main(void){L0:for(;;){}return x0;}".as_slice(),
+        b"int main(void){x0=x1;L0:for(;;){L1:for(;;){}L2:for(;;){}}}".as_slice(),
         b"char f_a__b(char x9){char x10;bgl_raise(\"\\000\\177\\377 ~\\\\\");x9=x10;return BGL_EOF;}".as_slice(),
     ];
     for text in texts {
@@ -91,12 +146,34 @@ fn texts_that_are_refused(rt: HostRuntime) {
         b"int main(void){/* */}".as_slice(),
         // a byte after the end
         b"int main(void){}}".as_slice(),
-        // loops that aren't the whole of a function
-        b"obj f_a__b(void){L0:for(;;){L1:for(;;){}}}".as_slice(),
-        b"obj f_a__b(void){x0=x1;L0:for(;;){}}".as_slice(),
-        b"obj f_a__b(void){L0:for(;;){}return x0;}".as_slice(),
+        // loops with no label
         b"obj f_a__b(void){for(;;){}}".as_slice(),
         b"obj f_a__b(void){x0:for(;;){}}".as_slice(),
+        b"obj f_a__b(void){L0:x0=x1;}".as_slice(),
+        // no `else`
+        b"int main(void){if(x0){}}".as_slice(),
+        b"int main(void){if(x0){}return 0;}".as_slice(),
+        b"int main(void){if(x0){}{}}".as_slice(),
+        // `else` without `if`
+        b"int main(void){else{}}".as_slice(),
+        b"int main(void){}else{}".as_slice(),
+        b"int main(void){L0:for(;;){}else{}}".as_slice(),
+        b"int main(void){if(x0){}else{}else{}}".as_slice(),
+        // blocks with no braces
+        b"int main(void){if(x0)return 0;else{}}".as_slice(),
+        b"int main(void){if(x0){}else return 0;}".as_slice(),
+        b"int main(void){if(x0){}else if(x1){}else{}}".as_slice(),
+        // braces too few and too many
+        b"int main(void){if(x0){}else{}".as_slice(),
+        b"int main(void){if(x0){}else{}}}".as_slice(),
+        b"int main(void){L0:for(;;){}".as_slice(),
+        // conditions
+        b"int main(void){if x0{}else{}}".as_slice(),
+        b"int main(void){if(){}else{}}".as_slice(),
+        b"int main(void){if(x0;){}else{}}".as_slice(),
+        // words that are no names
+        b"int main(void){if=x0;}".as_slice(),
+        b"int main(void){x0=else;}".as_slice(),
         // no semicolon
         b"int main(void){return 0}".as_slice(),
         b"int main(void){x0=x1 x1=x0;}".as_slice(),

@@ -1,10 +1,10 @@
-ghost use Rattle.std.specs.Prelude.{◌≡◌, IsTrue, codes};
+ghost use Rattle.std.specs.Prelude.{◌≡◌, IsTrue};
 ghost use Rattle.std.specs.Option.{IfSome};
 ghost use Rattle.scheme_data.specs.Decimal.{number_text};
 ghost use Rattle.scheme_data.specs.Fixnum.{IsFixnum};
 ghost use Rattle.c_tree.specs.Operations.{op_text, op_named};
 ghost use Rattle.c_tree.specs.Spelling.{type_text, atom_text, callee_text, NamedAtom, NamedCallee};
-ghost use Rattle.c_read.specs.Words.{is_text, type_of, number_of, constant_of, atom_of, callee_of, is_return};
+ghost use Rattle.c_read.specs.Words.{is_text, type_of, number_of, constant_of, atom_of, callee_of};
 
 use c_tree::{CAtom, CTy, Callee, Op, names_function, names_local, op_by_name};
 use scheme_data::{Text, number_of_text};
@@ -100,11 +100,4 @@ pub fn callee(word: Text) -> Option<Callee>
     }
     let op = operation(word.as_bytes())?;
     Some(Callee::Op(op))
-}
-
-pub fn is_return_word(word: &[u8]) -> bool
-    ensures value { result ≡ is_return word.now }
-    ensures spelled { IsTrue result → word.now ≡ codes "return" }
-{
-    has_text(word, b"return")
 }

@@ -1,19 +1,21 @@
 -- Lists written item by item.
 use Rattle.std.proofs.Common.{◌≡◌, ℕ, zero, suc, ◌+◌, ◌<◌, ◌≤◌, List, [], ◌∷◌, ◌++◌, length, take, get_or, refl, sym, ◌∙◌, ap, subst, arith}
-use Rattle.std.specs.Prelude.{IsTrue, codes}
+use Rattle.std.specs.Prelude.{IsTrue, map}
 use Rattle.c_tree.specs.Lexical.{tokens}
 use Rattle.std.proofs.lemmas.List.{take_more, take_all}
 use Rattle.c_tree.specs.declared.tree.CTy.{CTy}
 use Rattle.c_tree.specs.declared.tree.CArg.{CArg}
 use Rattle.c_tree.specs.declared.tree.CVar.{CVar}
-use Rattle.c_tree.specs.declared.tree.CStmt.{CStmt}
-use Rattle.c_tree.specs.declared.tree.CStmt.TheVariants as stmt
-use Rattle.c_tree.specs.declared.tree.CItem.{CItem}
+use Rattle.c_tree.specs.declared.pieces.PieceRef.{PieceRef}
+use Rattle.c_tree.specs.declared.function.CItem.{CItem}
 use Rattle.c_tree.specs.declared.tree.Token.{Token}
 use Rattle.c_tree.specs.declared.tree.Token.TheVariants.{Word, Mark}
 use Rattle.c_tree.specs.Names.{is_local_name}
-use Rattle.c_tree.specs.Code.{done, onto, item_of, items_of}
-use Rattle.c_tree.specs.Spelling.{expr_tokens, call_tokens, code_tokens, more_arguments, argument_token, more_types, more_params, type_text, local_tokens, item_tokens, items_tokens, NamedArgument, NamedArguments, NamedVars, NamedCode, NamedBody, NamedItem, NamedItems}
+use Rattle.c_tree.specs.Code.{Code}
+use Rattle.c_tree.specs.Functions.{item_of, items_of}
+use Rattle.c_tree.specs.Pieces.{pieces, piece_of}
+use Rattle.c_tree.specs.Spelling.{code_tokens, piece_tokens, pieces_tokens, more_arguments, argument_token, more_types, more_params, type_text, local_tokens, item_tokens, items_tokens, NamedArgument, NamedArguments, NamedCode, NamedPiece, NamedPieces, NamedVars, NamedItem, NamedItems}
+use Rattle.c_tree.proofs.Spelled.{pieces_spelled, named_pieces}
 use Rattle.c_write.specs.Adds.{Follow, anything, Adds}
 use Rattle.c_write.proofs.Adding.{adds_both, tokens_all}
 
@@ -68,14 +70,13 @@ pub local_tokens-append : (xs ys : List CVar) (ts : List Token) → local_tokens
 local_tokens-append [] ys ts = refl
 local_tokens-append (x ∷ xs) ys ts = ap (λ us. Word (type_text x.ty) ∷ Word x.name ∷ Mark 59 ∷ us) (local_tokens-append xs ys ts)
 
-abbrev pub statements_tokens : List CStmt → List Token → List Token
-statements_tokens ss = code_tokens (onto ss done)
+-- the tokens of pieces as they are listed
+abbrev pub listed_tokens : List PieceRef → List Token → List Token
+listed_tokens ps = pieces_tokens (map piece_of ps)
 
-pub statements_tokens-append : (xs ys : List CStmt) (ts : List Token) → statements_tokens (xs ++ ys) ts ≡ statements_tokens xs (statements_tokens ys ts)
-statements_tokens-append [] ys ts = refl
-statements_tokens-append (stmt.Assign x e ∷ xs) ys ts = ap (λ us. Word x ∷ Mark 61 ∷ expr_tokens e (Mark 59 ∷ us)) (statements_tokens-append xs ys ts)
-statements_tokens-append (stmt.Call c ∷ xs) ys ts = ap (λ us. call_tokens c (Mark 59 ∷ us)) (statements_tokens-append xs ys ts)
-statements_tokens-append (stmt.Return e ∷ xs) ys ts = ap (λ us. Word (codes "return") ∷ expr_tokens e (Mark 59 ∷ us)) (statements_tokens-append xs ys ts)
+pub listed_tokens-append : (xs ys : List PieceRef) (ts : List Token) → listed_tokens (xs ++ ys) ts ≡ listed_tokens xs (listed_tokens ys ts)
+listed_tokens-append [] ys ts = refl
+listed_tokens-append (x ∷ xs) ys ts = ap (piece_tokens (piece_of x)) (listed_tokens-append xs ys ts)
 
 abbrev pub all_tokens : List CItem → List Token → List Token
 all_tokens items = items_tokens (items_of items)
@@ -92,25 +93,22 @@ named_argument_at xs i x named within is = item_at NamedArguments NamedArgument 
 pub named_var_at : (xs : List CVar) (i : ℕ) (x : CVar) → NamedVars xs → i < length xs → x ≡ get_or xs i x → IsTrue (is_local_name x.name)
 named_var_at xs i x named within is = item_at NamedVars (λ v. IsTrue (is_local_name v.name)) (λ y ys h. h) xs i x named within is
 
-abbrev pub NamedStatements : List CStmt → Type 0
-NamedStatements ss = NamedCode (onto ss done)
-
-named_statement_parts : (x : CStmt) (xs : List CStmt) → NamedStatements (x ∷ xs) → NamedStatements (x ∷ []) × NamedStatements xs
-named_statement_parts (stmt.Assign x e) xs (name, expr, others) = ((name, expr, tt), others)
-named_statement_parts (stmt.Call c) xs (called, others) = ((called, tt), others)
-named_statement_parts (stmt.Return e) xs (expr, others) = ((expr, tt), others)
-
-pub named_statement_at : (xs : List CStmt) (i : ℕ) (x : CStmt) → NamedStatements xs → i < length xs → x ≡ get_or xs i x → NamedStatements (x ∷ [])
-named_statement_at xs i x named within is = item_at NamedStatements (λ s. NamedStatements (s ∷ [])) named_statement_parts xs i x named within is
-
-pub named_straight : (ss : List CStmt) → NamedBody (onto ss done) → NamedStatements ss
-named_straight [] named = named
-named_straight (stmt.Assign x e ∷ ss) named = named
-named_straight (stmt.Call c ∷ ss) named = named
-named_straight (stmt.Return e ∷ ss) named = named
+pub named_piece_at : (xs : List PieceRef) (i : ℕ) (x : PieceRef) → NamedPieces (map piece_of xs) → i < length xs → x ≡ get_or xs i x → NamedPiece (piece_of x)
+named_piece_at xs i x named within is = item_at (λ ys. NamedPieces (map piece_of ys)) (λ y. NamedPiece (piece_of y)) (λ y ys h. h) xs i x named within is
 
 pub named_item_at : (xs : List CItem) (i : ℕ) (x : CItem) → NamedItems (items_of xs) → i < length xs → x ≡ get_or xs i x → NamedItem (item_of x)
 named_item_at xs i x named within is = item_at (λ ys. NamedItems (items_of ys)) (λ y. NamedItem (item_of y)) (λ y ys h. h) xs i x named within is
+
+-- A function's statements ------------------------------------------------------------------
+
+pub named_listed : (ps listed : List PieceRef) (c : Code) → listed ≡ ps → map piece_of ps ≡ pieces c [] → NamedCode c → NamedPieces (map piece_of listed)
+named_listed ps listed c same is named = subst NamedPieces (sym (ap (map piece_of) same ∙ is)) (named_pieces c [] named tt)
+
+-- what has the pieces of code has its tokens
+pub adds_code : {before after : Follow} {old new : List ℕ} (ps listed : List PieceRef) (c : Code) → listed ≡ ps → map piece_of ps ≡ pieces c []
+    → Adds before after old new (listed_tokens listed) → Adds before after old new (code_tokens c)
+adds_code ps listed c same is adds =
+    adds_same (listed_tokens listed) (code_tokens c) (λ ts. ap (λ qs. pieces_tokens qs ts) (ap (map piece_of) same ∙ is) ∙ pieces_spelled c [] ts) adds
 
 -- Whole texts -------------------------------------------------------------------------------
 

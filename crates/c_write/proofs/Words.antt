@@ -8,9 +8,9 @@ use Rattle.std.proofs.lemmas.Bool.Decides.{nat_tests}
 use Rattle.scheme_data.specs.Decimal.{number_text}
 use Rattle.scheme_data.specs.Fixnum.{IsFixnum}
 use Rattle.scheme_data.proofs.NumberTexts.{IsNumeralText, IsSignedText, number_text-IsSignedText, mag_fixnum}
-use Rattle.prim_table.specs.declared.primitives.Primitive.TheVariants.{Add, Display, Newline}
+use Rattle.prim_table.specs.declared.primitives.Primitive.TheVariants.{Add, Less, Display, Newline}
 use Rattle.c_tree.specs.declared.op.Op.{Op}
-use Rattle.c_tree.specs.declared.op.Op.TheVariants.{BoxLong, UnboxLong, Raise, Args, Status, Primitive as Does}
+use Rattle.c_tree.specs.declared.op.Op.TheVariants.{BoxLong, BoxBool, UnboxLong, Truth, Raise, Args, Status, Primitive as Does}
 use Rattle.c_tree.specs.declared.names.NameState.{NameState}
 use Rattle.c_tree.specs.declared.names.NameState.TheVariants.{First, FirstEscape, InModule, ModuleEscape, ModuleHex, Second, InName, NameEscape, NameHex, Wrong}
 use Rattle.c_tree.specs.Names.{is_digit, is_alphanumeric, is_hex, after_byte, after_bytes, is_end, is_module_function, is_function_name, is_main, is_numeral, is_local_name, is_label_name}
@@ -136,11 +136,14 @@ function_word word h = function_word_by (is_module_function word) word refl h
 
 pub op_word : (op : Op) → IsTrue (is_word (op_text op))
 op_word BoxLong = refl
+op_word BoxBool = refl
 op_word UnboxLong = refl
+op_word Truth = refl
 op_word Raise = refl
 op_word Args = refl
 op_word Status = refl
 op_word (Does Add) = refl
+op_word (Does Less) = refl
 op_word (Does Display) = refl
 op_word (Does Newline) = refl
 

@@ -1,18 +1,20 @@
 // Declarations and definitions.
-ghost use Rattle.std.specs.Prelude.{◌∷◌, [], codes, OnOk, IsTrue};
+ghost use Rattle.std.specs.Prelude.{◌∷◌, OnOk, IsTrue};
 ghost use Rattle.c_tree.specs.declared.tree.Token.TheVariants.{Word, Mark};
-ghost use Rattle.c_tree.specs.Names.{is_function_name, is_local_name, is_label_name};
-ghost use Rattle.c_tree.specs.Code.{onto, done, loop, code_of, fun_of, item_of, items_of, declared, defined};
-ghost use Rattle.c_tree.specs.Spelling.{type_text, more_types, type_tokens, more_params, param_tokens, local_tokens, code_tokens, item_tokens, items_tokens, NamedVars, NamedCode, NamedBody, NamedItem, NamedItems};
+ghost use Rattle.c_tree.specs.Names.{is_function_name, is_local_name};
+ghost use Rattle.c_tree.specs.Code.{declared, defined};
+ghost use Rattle.c_tree.specs.Functions.{fun_of, item_of, items_of};
+ghost use Rattle.c_tree.specs.Spelling.{type_text, more_types, type_tokens, more_params, param_tokens, local_tokens, item_tokens, items_tokens, NamedVars, NamedItem, NamedItems};
 ghost use Rattle.c_write.specs.Adds.{Adds, anything, apart};
 
+use crate::piece::put_code;
 use crate::put::{
     close_block, open_block, put_comma, put_end, put_indent, put_mark, put_name, put_space,
     put_word,
 };
-use crate::statement::put_statements;
-use c_tree::{CBody, CFun, CItem, CStmt, CTy, CVar};
+use c_tree::{CFun, CItem, CTy, CVar};
 use scheme_data::{OutOfMemory, Text};
+use std::alloc::Global;
 
 fn put_type(out: &mut Text, ty: CTy) -> Result<(), OutOfMemory>
     ensures { OnOk result (Adds anything apart out.old out.new (λ ts. Word (type_text ty) ∷ ts)) }
@@ -85,60 +87,11 @@ fn put_locals(out: &mut Text, locals: &[CVar]) -> Result<(), OutOfMemory>
     ensures { OnOk result (Adds anything anything out.old out.new (local_tokens locals.now)) }
 {
     for local in locals {
-        put_indent(out, false)?;
+        put_indent(out, 1)?;
         put_variable(out, local)?;
         put_end(out)?;
     }
     Ok(())
-}
-
-// `for (;;) {` and a line end.
-fn put_for(out: &mut Text) -> Result<(), OutOfMemory>
-    ensures { OnOk result (Adds anything anything out.old out.new
-        (λ ts. Word (codes "for") ∷ Mark 40 ∷ Mark 59 ∷ Mark 59 ∷ Mark 41 ∷ Mark 123 ∷ ts)) }
-{
-    put_word(out, b"for")?;
-    put_space(out)?;
-    put_mark(out, b'(')?;
-    put_mark(out, b';')?;
-    put_mark(out, b';')?;
-    put_mark(out, b')')?;
-    open_block(out)?;
-    Ok(())
-}
-
-fn put_label(out: &mut Text, label: &Text) -> Result<(), OutOfMemory>
-    requires { IsTrue (is_label_name label.now) }
-    ensures { OnOk result (Adds anything anything out.old out.new (λ ts. Word label.now ∷ Mark 58 ∷ ts)) }
-{
-    put_name(out, label)?;
-    put_mark(out, b':')?;
-    put_space(out)?;
-    Ok(())
-}
-
-fn put_loop(out: &mut Text, label: &Text, statements: &[CStmt]) -> Result<(), OutOfMemory>
-    requires { IsTrue (is_label_name label.now) × NamedCode (onto statements.now done) }
-    ensures { OnOk result (Adds anything anything out.old out.new
-        (code_tokens (loop label.now (onto statements.now done) done))) }
-{
-    put_indent(out, false)?;
-    put_label(out, label)?;
-    put_for(out)?;
-    put_statements(out, true, statements)?;
-    put_indent(out, false)?;
-    close_block(out)?;
-    Ok(())
-}
-
-fn put_body(out: &mut Text, body: &CBody) -> Result<(), OutOfMemory>
-    requires { NamedBody (code_of body.now) }
-    ensures { OnOk result (Adds anything anything out.old out.new (code_tokens (code_of body.now))) }
-{
-    match body {
-        CBody::Straight(statements) => put_statements(out, false, statements.as_slice()),
-        CBody::Looped(label, statements) => put_loop(out, label, statements.as_slice()),
-    }
 }
 
 // A type, a name and a parenthesis.
@@ -165,7 +118,7 @@ fn put_declaration(out: &mut Text, ty: CTy, name: &Text, params: &[CTy]) -> Resu
     Ok(())
 }
 
-fn put_definition(out: &mut Text, function: &CFun) -> Result<(), OutOfMemory>
+fn put_definition(alloc: Global, out: &mut Text, function: &CFun) -> Result<(), OutOfMemory>
     requires { NamedItem (defined (fun_of function.now)) }
     ensures { OnOk result (Adds anything anything out.old out.new (item_tokens (defined (fun_of function.now)))) }
 {
@@ -174,28 +127,28 @@ fn put_definition(out: &mut Text, function: &CFun) -> Result<(), OutOfMemory>
     put_mark(out, b')')?;
     open_block(out)?;
     put_locals(out, function.locals.as_slice())?;
-    put_body(out, &function.body)?;
+    put_code(alloc, out, function)?;
     close_block(out)?;
     Ok(())
 }
 
-fn put_item(out: &mut Text, item: &CItem) -> Result<(), OutOfMemory>
+fn put_item(alloc: Global, out: &mut Text, item: &CItem) -> Result<(), OutOfMemory>
     requires { NamedItem (item_of item.now) }
     ensures { OnOk result (Adds anything anything out.old out.new (item_tokens (item_of item.now))) }
 {
     match item {
         CItem::Declared(ty, name, params) => put_declaration(out, *ty, name, params.as_slice()),
-        CItem::Defined(function) => put_definition(out, function),
+        CItem::Defined(function) => put_definition(alloc, out, function),
     }
 }
 
 /// The items one after another, each with line ends.
-pub fn put_items(out: &mut Text, items: &[CItem]) -> Result<(), OutOfMemory>
+pub fn put_items(alloc: Global, out: &mut Text, items: &[CItem]) -> Result<(), OutOfMemory>
     requires { NamedItems (items_of items.now) }
     ensures { OnOk result (Adds anything anything out.old out.new (items_tokens (items_of items.now))) }
 {
     for item in items {
-        put_item(out, item)?;
+        put_item(alloc, out, item)?;
     }
     Ok(())
 }

@@ -2,6 +2,7 @@
 #![tactic(auto)]
 
 mod item;
+mod piece;
 mod put;
 mod quote;
 mod statement;

@@ -1,5 +1,5 @@
 // The smallest parts of a C text.
-ghost use Rattle.std.specs.Prelude.{◌≡◌, ◌++◌, ◌∷◌, [], codes, OnOk, IsTrue};
+ghost use Rattle.std.specs.Prelude.{◌∷◌, OnOk, IsTrue};
 ghost use Rattle.c_tree.specs.declared.tree.Token.TheVariants.{Word, Mark};
 ghost use Rattle.c_tree.specs.Lexical.{is_mark};
 ghost use Rattle.c_write.specs.Adds.{Adds, anything, apart, is_word};
@@ -51,15 +51,16 @@ fn put_four_spaces(out: &mut Text) -> Result<(), OutOfMemory>
     Ok(())
 }
 
-/// Four spaces, or eight in a loop.
-pub fn put_indent(out: &mut Text, deep: bool) -> Result<(), OutOfMemory>
-    ensures { OnOk result (Adds apart anything out.old out.new (λ ts. ts)) }
+// Deeper lines are indented no further. The depth may grow with the text, whose indents alone would then be quadratic in it.
+const MOST_STEPS: u64 = 16;
+
+/// Four spaces for each step of the depth.
+pub fn put_indent(out: &mut Text, depth: u64) -> Result<(), OutOfMemory>
+    ensures { OnOk result (Adds anything anything out.old out.new (λ ts. ts)) }
 {
-    put_four_spaces(out)?;
-    if !deep {
-        return Ok(());
+    for _ in 0..depth.min(MOST_STEPS) {
+        put_four_spaces(out)?;
     }
-    put_four_spaces(out)?;
     Ok(())
 }
 
@@ -90,7 +91,7 @@ pub fn open_block(out: &mut Text) -> Result<(), OutOfMemory>
 }
 
 pub fn close_block(out: &mut Text) -> Result<(), OutOfMemory>
-    ensures { OnOk result (Adds apart anything out.old out.new (λ ts. Mark 125 ∷ ts)) }
+    ensures { OnOk result (Adds anything anything out.old out.new (λ ts. Mark 125 ∷ ts)) }
 {
     put_mark(out, b'}')?;
     put_line_end(out)?;

@@ -1,5 +1,5 @@
 // Strings in a C text.
-ghost use Rattle.std.specs.Prelude.{◌≡◌, ◌++◌, ◌∷◌, [], OnOk};
+ghost use Rattle.std.specs.Prelude.{◌≡◌, ◌++◌, ◌∷◌, OnOk};
 ghost use Rattle.c_tree.specs.declared.tree.Token.TheVariants.{Str};
 ghost use Rattle.c_tree.specs.Lexical.{is_plain};
 ghost use Rattle.c_write.specs.Adds.{Adds, anything, apart};

@@ -1,14 +1,15 @@
 // Statements and what stands in them.
-ghost use Rattle.std.specs.Prelude.{◌∷◌, [], codes, OnOk, IsTrue};
+ghost use Rattle.std.specs.Prelude.{◌∷◌, codes, OnOk, IsTrue};
 ghost use Rattle.scheme_data.specs.Decimal.{number_text};
 ghost use Rattle.scheme_data.specs.Fixnum.{IsFixnum};
 ghost use Rattle.c_tree.specs.declared.tree.Token.TheVariants.{Word, Mark};
-ghost use Rattle.c_tree.specs.Names.{is_local_name};
-ghost use Rattle.c_tree.specs.Code.{onto, done};
-ghost use Rattle.c_tree.specs.Spelling.{atom_text, argument_token, more_arguments, argument_tokens, callee_text, call_tokens, expr_tokens, code_tokens, NamedAtom, NamedArgument, NamedArguments, NamedCallee, NamedCall, NamedExpr, NamedCode};
+ghost use Rattle.c_tree.specs.declared.pieces.Piece.TheVariants.{If, Loop};
+ghost use Rattle.c_tree.specs.Names.{is_label_name, is_local_name};
+ghost use Rattle.c_tree.specs.Pieces.{opening};
+ghost use Rattle.c_tree.specs.Spelling.{atom_text, argument_token, more_arguments, argument_tokens, callee_text, call_tokens, expr_tokens, piece_tokens, NamedAtom, NamedArgument, NamedArguments, NamedCallee, NamedCall, NamedExpr, NamedPiece};
 ghost use Rattle.c_write.specs.Adds.{Adds, anything, apart};
 
-use crate::put::{put_comma, put_end, put_indent, put_mark, put_name, put_space, put_word};
+use crate::put::{open_block, put_comma, put_end, put_mark, put_name, put_space, put_word};
 use crate::quote::put_string;
 use c_tree::{CArg, CAtom, CCall, CExpr, CStmt, Callee, op_name};
 use scheme_data::{OutOfMemory, Text, push_number};
@@ -135,25 +136,57 @@ fn put_return(out: &mut Text, expr: &CExpr) -> Result<(), OutOfMemory>
     Ok(())
 }
 
-fn put_statement(out: &mut Text, statement: &CStmt) -> Result<(), OutOfMemory>
-    requires { NamedCode (onto (statement.now ∷ []) done) }
-    ensures { OnOk result (Adds anything anything out.old out.new (code_tokens (onto (statement.now ∷ []) done))) }
+// `if`, the condition, and where its block begins.
+fn put_if(out: &mut Text, condition: &CExpr) -> Result<(), OutOfMemory>
+    requires { NamedExpr condition.now }
+    ensures { OnOk result (Adds anything anything out.old out.new (piece_tokens (If condition.now))) }
+{
+    put_word(out, b"if")?;
+    put_space(out)?;
+    put_mark(out, b'(')?;
+    put_expr(out, condition)?;
+    put_mark(out, b')')?;
+    open_block(out)?;
+    Ok(())
+}
+
+// `for (;;) {` and a line end.
+fn put_for(out: &mut Text) -> Result<(), OutOfMemory>
+    ensures { OnOk result (Adds anything anything out.old out.new
+        (λ ts. Word (codes "for") ∷ Mark 40 ∷ Mark 59 ∷ Mark 59 ∷ Mark 41 ∷ Mark 123 ∷ ts)) }
+{
+    put_word(out, b"for")?;
+    put_space(out)?;
+    put_mark(out, b'(')?;
+    put_mark(out, b';')?;
+    put_mark(out, b';')?;
+    put_mark(out, b')')?;
+    open_block(out)?;
+    Ok(())
+}
+
+// The label, and where its block begins.
+fn put_loop(out: &mut Text, label: &Text) -> Result<(), OutOfMemory>
+    requires { IsTrue (is_label_name label.now) }
+    ensures { OnOk result (Adds anything anything out.old out.new (piece_tokens (Loop label.now))) }
+{
+    put_name(out, label)?;
+    put_mark(out, b':')?;
+    put_space(out)?;
+    put_for(out)?;
+    Ok(())
+}
+
+/// A line of the statement, without what is in its blocks.
+pub fn put_statement(out: &mut Text, statement: &CStmt) -> Result<(), OutOfMemory>
+    requires { NamedPiece (opening statement.now) }
+    ensures { OnOk result (Adds anything anything out.old out.new (piece_tokens (opening statement.now))) }
 {
     match statement {
         CStmt::Assign(name, expr) => put_assignment(out, name, expr),
         CStmt::Call(call) => put_call_statement(out, call),
         CStmt::Return(expr) => put_return(out, expr),
+        CStmt::If(condition, _, _) => put_if(out, condition),
+        CStmt::Loop(label, _) => put_loop(out, label),
     }
-}
-
-/// A line for each statement.
-pub fn put_statements(out: &mut Text, deep: bool, statements: &[CStmt]) -> Result<(), OutOfMemory>
-    requires { NamedCode (onto statements.now done) }
-    ensures { OnOk result (Adds anything anything out.old out.new (code_tokens (onto statements.now done))) }
-{
-    for statement in statements {
-        put_indent(out, deep)?;
-        put_statement(out, statement)?;
-    }
-    Ok(())
 }

@@ -1,12 +1,15 @@
-ghost use Rattle.std.specs.Prelude.{◌≡◌, ◌<◌, ◌∷◌, [], length, IfOk, IsTrue};
+ghost use Rattle.std.specs.Prelude.{◌≡◌, ◌<◌, ◌∷◌, [], length, IfOk, OnOk, IsTrue};
+ghost use Rattle.scheme_data.specs.Fixnum.{IsFixnum};
 ghost use Rattle.c_tree.specs.Names.{is_function_name, is_local_name, is_label_name};
-ghost use Rattle.c_tree.specs.Code.{onto, done, code_of, fun_of, item_of, items_of, defined};
-ghost use Rattle.c_tree.specs.Spelling.{NamedCall, NamedCode, NamedBody, NamedItem, NamedItems};
+ghost use Rattle.c_tree.specs.Functions.{item_of, items_of};
+ghost use Rattle.c_tree.specs.Layout.{code_of};
+ghost use Rattle.c_tree.specs.Spelling.{NamedCall, NamedCode, NamedExpr, NamedItem, NamedItems, NamedPiece, NamedPieces, NamedVars};
 
+use crate::put::put_indent;
 use crate::{write_c, write_unit};
 use c_tree::{
-    CArg, CAtom, CBody, CCall, CExpr, CFun, CItem, CProgram, CStmt, CTy, CUnit, CVar, Callee, Op,
-    function_name_text, label_name_text, local_name_text,
+    CArg, CAtom, CCall, CExpr, CFun, CItem, CProgram, CTy, CUnit, CVar, Callee, Layout, Op, Piece,
+    function_name_text, label_name_text, lay_out, local_name_text,
 };
 use prim_table::Primitive;
 use scheme_data::{List, OutOfMemory, Text};
@@ -58,15 +61,31 @@ fn variable(alloc: Global, ty: CTy, n: u32) -> Result<CVar, OutOfMemory>
     })
 }
 
-fn sum(alloc: Global) -> Result<CCall, OutOfMemory>
-    ensures { IfOk result (λ c. NamedCall c) }
+fn with_number(
+    alloc: Global,
+    primitive: Primitive,
+    place: u32,
+    n: i64,
+) -> Result<CExpr, OutOfMemory>
+    requires { IsFixnum n }
+    ensures { IfOk result (λ e. NamedExpr e) }
 {
-    let first = CArg::Atom(CAtom::Name(local(alloc, 0)?));
-    let second = CArg::Atom(CAtom::Int(-3));
-    Ok(CCall {
-        callee: Callee::Op(Op::Primitive(Primitive::Add)),
+    let first = CArg::Atom(CAtom::Name(local(alloc, place)?));
+    let second = CArg::Atom(CAtom::Int(n));
+    Ok(CExpr::Call(CCall {
+        callee: Callee::Op(Op::Primitive(primitive)),
         args: two(alloc, first, second)?,
-    })
+    }))
+}
+
+fn truth(alloc: Global, place: u32) -> Result<CExpr, OutOfMemory>
+    ensures { IfOk result (λ e. NamedExpr e) }
+{
+    let word = CArg::Atom(CAtom::Name(local(alloc, place)?));
+    Ok(CExpr::Call(CCall {
+        callee: Callee::Op(Op::Truth),
+        args: one(alloc, word)?,
+    }))
 }
 
 fn message(alloc: Global) -> Result<CCall, OutOfMemory>
@@ -79,54 +98,106 @@ fn message(alloc: Global) -> Result<CCall, OutOfMemory>
     })
 }
 
-fn straight(alloc: Global) -> Result<CBody, OutOfMemory>
-    ensures { IfOk result (λ b. NamedBody (code_of b)) }
+fn add(ps: &mut List<Piece>, piece: Piece) -> Result<(), OutOfMemory>
+    requires { NamedPieces ps.now × NamedPiece piece }
+    ensures { OnOk result (NamedPieces ps.new) }
 {
-    let first = CStmt::Assign(local(alloc, 2)?, CExpr::Call(sum(alloc)?));
-    let second = CStmt::Return(CExpr::Atom(CAtom::Name(local(alloc, 2)?)));
-    Ok(CBody::Straight(two(alloc, first, second)?))
+    ps.push(piece)?;
+    Ok(())
 }
 
-fn looped(alloc: Global) -> Result<CBody, OutOfMemory>
-    ensures { IfOk result (λ b. NamedBody (code_of b)) }
+fn straight(alloc: Global) -> Result<List<Piece>, OutOfMemory>
+    ensures { IfOk result (λ ps. NamedPieces ps) }
 {
-    let first = CStmt::Call(message(alloc)?);
-    let second = CStmt::Return(CExpr::Atom(CAtom::Unspec));
-    let statements = two(alloc, first, second)?;
-    Ok(CBody::Looped(label(alloc, 0)?, statements))
+    let mut ps = List::new(alloc);
+    let sum = with_number(alloc, Primitive::Add, 0, -3)?;
+    add(&mut ps, Piece::Assign(local(alloc, 2)?, sum))?;
+    add(
+        &mut ps,
+        Piece::Return(CExpr::Atom(CAtom::Name(local(alloc, 2)?))),
+    )?;
+    Ok(ps)
 }
 
-fn adder(alloc: Global) -> Result<CItem, OutOfMemory>
+fn looped(alloc: Global) -> Result<List<Piece>, OutOfMemory>
+    ensures { IfOk result (λ ps. NamedPieces ps) }
+{
+    let mut ps = List::new(alloc);
+    add(&mut ps, Piece::Loop(label(alloc, 0)?))?;
+    add(&mut ps, Piece::Call(message(alloc)?))?;
+    add(&mut ps, Piece::Return(CExpr::Atom(CAtom::Unspec)))?;
+    add(&mut ps, Piece::End)?;
+    Ok(ps)
+}
+
+fn nested(alloc: Global) -> Result<List<Piece>, OutOfMemory>
+    ensures { IfOk result (λ ps. NamedPieces ps) }
+{
+    let mut ps = List::new(alloc);
+    let less = with_number(alloc, Primitive::Less, 1, 3)?;
+    add(&mut ps, Piece::Loop(label(alloc, 0)?))?;
+    add(&mut ps, Piece::Assign(local(alloc, 2)?, less))?;
+    add(
+        &mut ps,
+        Piece::If(CExpr::Atom(CAtom::Name(local(alloc, 2)?))),
+    )?;
+    add(&mut ps, Piece::If(truth(alloc, 0)?))?;
+    add(&mut ps, Piece::Return(CExpr::Atom(CAtom::True)))?;
+    add(&mut ps, Piece::Else)?;
+    add(&mut ps, Piece::End)?;
+    add(&mut ps, Piece::Else)?;
+    add(&mut ps, Piece::Return(CExpr::Atom(CAtom::Unspec)))?;
+    add(&mut ps, Piece::End)?;
+    add(&mut ps, Piece::End)?;
+    Ok(ps)
+}
+
+// Pieces that are those of no code answer want of memory.
+fn laid(alloc: Global, ps: List<Piece>) -> Result<Layout, OutOfMemory>
+    requires { NamedPieces ps }
+    ensures { IfOk result (λ l. NamedCode (code_of l.stmts l.body)) }
+{
+    match lay_out(alloc, ps)? {
+        Some(layout) => Ok(layout),
+        None => Err(OutOfMemory),
+    }
+}
+
+fn two_params(alloc: Global) -> Result<List<CVar>, OutOfMemory>
+    ensures { IfOk result (λ vs. NamedVars vs) }
+{
+    let first = variable(alloc, CTy::Obj, 0)?;
+    let second = variable(alloc, CTy::Long, 1)?;
+    two(alloc, first, second)
+}
+
+// A function with two parameters and a local.
+fn defined(alloc: Global, name: &[u8], ty: CTy, ps: List<Piece>) -> Result<CItem, OutOfMemory>
+    requires { (0 < length name.now) × NamedPieces ps }
     ensures { IfOk result (λ i. NamedItem (item_of i)) }
 {
-    let name = function(alloc, b"add")?;
-    let params = two(
-        alloc,
-        variable(alloc, CTy::Obj, 0)?,
-        variable(alloc, CTy::Long, 1)?,
-    )?;
-    let locals = one(alloc, variable(alloc, CTy::Obj, 2)?)?;
-    let body = straight(alloc)?;
+    let layout = laid(alloc, ps)?;
     Ok(CItem::Defined(CFun {
         result: CTy::Obj,
-        name,
-        params,
-        locals,
-        body,
+        name: function(alloc, name)?,
+        params: two_params(alloc)?,
+        locals: one(alloc, variable(alloc, ty, 2)?)?,
+        body: layout.body,
+        stmts: layout.stmts,
     }))
 }
 
 fn sayer(alloc: Global) -> Result<CItem, OutOfMemory>
     ensures { IfOk result (λ i. NamedItem (item_of i)) }
 {
-    let name = function(alloc, b"go")?;
-    let body = looped(alloc)?;
+    let layout = laid(alloc, looped(alloc)?)?;
     Ok(CItem::Defined(CFun {
         result: CTy::Int,
-        name,
+        name: function(alloc, b"go")?,
         params: List::new(alloc),
         locals: List::new(alloc),
-        body,
+        body: layout.body,
+        stmts: layout.stmts,
     }))
 }
 
@@ -140,7 +211,7 @@ fn declaration(alloc: Global) -> Result<CItem, OutOfMemory>
 fn definitions(alloc: Global) -> Result<List<CItem>, OutOfMemory>
     ensures { IfOk result (λ l. NamedItems (items_of l)) }
 {
-    let first = adder(alloc)?;
+    let first = defined(alloc, b"add", CTy::Obj, straight(alloc)?)?;
     let second = sayer(alloc)?;
     two(alloc, first, second)
 }
@@ -155,6 +226,31 @@ fn definitions_have_a_line_a_statement(rt: HostRuntime) -> Result<(), OutOfMemor
     let expected =
         b"obj f_m__add(obj x0, long x1) {\n    obj x2;\n    x2 = bgl_p__2b(x0, -3);\n    return x2;\n}\nint f_m__go(void) {\n    L0: for (;;) {\n        f_m__say_21(\"say \\\"a\\\\b\\\"\\012\\000\\3779~\");\n        return BGL_UNSPEC;\n    }\n}\n";
     assert_eq!(rt; text.as_bytes(), expected.as_slice());
+    Ok(())
+}
+
+#[test]
+fn a_block_is_a_step_deeper(rt: HostRuntime) -> Result<(), OutOfMemory> {
+    let alloc = rt.alloc();
+    let unit = CUnit {
+        items: one(alloc, defined(alloc, b"f", CTy::Int, nested(alloc)?)?)?,
+    };
+    let text = write_unit(alloc, &unit)?;
+    let expected =
+        b"obj f_m__f(obj x0, long x1) {\n    int x2;\n    L0: for (;;) {\n        x2 = bgl_p__3c(x1, 3);\n        if (x2) {\n            if (bgl_truth(x0)) {\n                return BGL_TRUE;\n            } else {\n            }\n        } else {\n            return BGL_UNSPEC;\n        }\n    }\n}\n";
+    assert_eq!(rt; text.as_bytes(), expected.as_slice());
+    Ok(())
+}
+
+#[test]
+fn indents_end_at_sixteen_steps(rt: HostRuntime) -> Result<(), OutOfMemory> {
+    let alloc = rt.alloc();
+    let mut deep = Text::new(alloc);
+    put_indent(&mut deep, 16)?;
+    let mut deeper = Text::new(alloc);
+    put_indent(&mut deeper, 1000)?;
+    assert_eq!(rt; deep.as_bytes().len(), 64);
+    assert_eq!(rt; deeper.as_bytes(), deep.as_bytes());
     Ok(())
 }
 

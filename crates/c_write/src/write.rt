@@ -1,5 +1,5 @@
 ghost use Rattle.std.specs.Prelude.{IfOk};
-ghost use Rattle.c_tree.specs.Code.{items_of};
+ghost use Rattle.c_tree.specs.Functions.{items_of};
 ghost use Rattle.c_tree.specs.Spelling.{CText, NamedItems};
 
 use crate::item::put_items;
@@ -13,7 +13,7 @@ pub fn write_unit(alloc: Global, u: &CUnit) -> Result<Text, OutOfMemory>
     ensures { IfOk result (λ text. CText text (items_of u.now.items)) }
 {
     let mut text = Text::new(alloc);
-    put_items(&mut text, u.items.as_slice())?;
+    put_items(alloc, &mut text, u.items.as_slice())?;
     Ok(text)
 }
 
@@ -23,6 +23,6 @@ pub fn write_c(alloc: Global, p: &CProgram) -> Result<Text, OutOfMemory>
     ensures { IfOk result (λ text. CText text (items_of p.now.items)) }
 {
     let mut text = Text::new(alloc);
-    put_items(&mut text, p.items.as_slice())?;
+    put_items(alloc, &mut text, p.items.as_slice())?;
     Ok(text)
 }

@@ -2,17 +2,17 @@ use Rattle.std.proofs.Common.{◌≡◌, None, [], ◌∷◌, ◌++◌, refl, sy
 use Rattle.std.proofs.lemmas.Result.{err_from_is_err_and}
 use Rattle.std.proofs.lemmas.Bool.{both_ways}
 use Rattle.c_read.proofs.Many.{starts, goes_on, stops, going_ended, spelled_on}
-use Rattle.c_tree.specs.Code.{item_of}
+use Rattle.c_tree.specs.Functions.{item_of, items_of}
 use Rattle.c_tree.specs.Spelling.{item_tokens}
 use Rattle.c_read.specs.Productions.{item, at_end}
-use Rattle.c_read.proofs.Loops.{items_more, named_items_more, item_fewer, spelled_items, NamedList, not_at_end, is_at_end}
+use Rattle.c_read.proofs.Loops.{items_more, named_items_more, items_of_more, item_fewer, spelled_items, NamedList, not_at_end, is_at_end}
 use Rattle.c_read.proofs.items.read_items.Goals as goal
 
 pub loop-alloc-init : goal.loop-alloc-init
 loop-alloc-init c =
     let is : c.new-items.result ≡ [] = c.new-items.ensures in
     record {
-      going = starts item at_end c.new-items.result c.args.tokens.now is;
+      going = starts item at_end (items_of c.new-items.result) c.args.tokens.now (ap items_of is);
       spelled = sym (ap (λ xs. spelled_items xs c.args.tokens.now) is);
       named = subst NamedList (sym is) tt;
     }
@@ -23,8 +23,8 @@ loop-alloc-preserved c =
     let none : at_end c.loop-alloc.tokens ≡ None = not_at_end c.loop-alloc.tokens (λ e. both_ways c.is_empty.result c.loop-alloc-test.true (c.is_empty.ensures.1 e)) in
     let spelled = c.in_ok-item.ensures.spelled in
     record {
-      going = goes_on c.loop-alloc.invariant.going c.loop-alloc.tokens c.read_item.new.tokens c.in_ok-item.item c.push.new.self refl none c.in_ok-item.ensures.read
-          (item_fewer c.loop-alloc.tokens c.read_item.new.tokens (item_of c.in_ok-item.item) spelled.0) is;
+      going = goes_on c.loop-alloc.invariant.going c.loop-alloc.tokens c.read_item.new.tokens (item_of c.in_ok-item.item) (items_of c.push.new.self) refl none c.in_ok-item.ensures.read
+          (item_fewer c.loop-alloc.tokens c.read_item.new.tokens (item_of c.in_ok-item.item) spelled.0) (items_of_more c.loop-alloc.items c.push.new.self c.in_ok-item.item is);
       spelled = spelled_on spelled_items c.args.tokens.now c.loop-alloc.tokens c.loop-alloc.tokens (item_tokens (item_of c.in_ok-item.item) c.read_item.new.tokens) c.read_item.new.tokens c.loop-alloc.items c.push.new.self c.in_ok-item.item
           c.loop-alloc.invariant.spelled refl spelled.0 (items_more c.loop-alloc.items c.in_ok-item.item c.read_item.new.tokens) is;
       named = subst NamedList (sym is) (named_items_more c.loop-alloc.items c.in_ok-item.item c.loop-alloc.invariant.named spelled.1);

@@ -3,4 +3,4 @@ use Rattle.c_write.proofs.put.close_block.Goals as goal
 
 pub returns : goal.returns
 returns c =
-    adds_both c.in_ok-put_mark.ensures (from_anything c.in_ok-put_line_end.ensures)
+    from_anything (adds_both c.in_ok-put_mark.ensures (from_anything c.in_ok-put_line_end.ensures))

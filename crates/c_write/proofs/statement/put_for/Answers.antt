@@ -1,5 +1,5 @@
 use Rattle.c_write.proofs.Adding.{adds_both, from_anything}
-use Rattle.c_write.proofs.item.put_for.Goals as goal
+use Rattle.c_write.proofs.statement.put_for.Goals as goal
 
 pub returns : goal.returns
 returns c =
