@@ -6,21 +6,19 @@ use Rattle.std.specs.Cmp.Lexicographic.{nat_list_eq_equiv, same_text}
 use Rattle.std.proofs.lemmas.Bool.{and_parts, and_from, not-true}
 use Rattle.c_tree.specs.declared.tree.CTy.{CTy}
 use Rattle.c_tree.specs.declared.tree.CTy.TheVariants.{Int}
-use Rattle.c_tree.specs.declared.tree.CStmt.{CStmt}
-use Rattle.c_tree.specs.declared.tree.CStmt.TheVariants as stmt
-use Rattle.c_tree.specs.declared.tree.CBody.{CBody}
-use Rattle.c_tree.specs.declared.tree.CBody.TheVariants.{Straight, Looped}
 use Rattle.c_tree.specs.declared.tree.CVar.{CVar}
-use Rattle.c_tree.specs.declared.tree.CFun.{CFun}
-use Rattle.c_tree.specs.declared.tree.CItem.{CItem}
-use Rattle.c_tree.specs.declared.tree.CItem.TheVariants.{Declared, Defined}
-use Rattle.c_tree.specs.Code.{done, defined, onto, fun_of, item_of, items_of, code_of as c_code}
+use Rattle.c_tree.specs.declared.function.CFun.{CFun}
+use Rattle.c_tree.specs.declared.function.CItem.{CItem}
+use Rattle.c_tree.specs.declared.function.CItem.TheVariants.{Declared, Defined}
+use Rattle.c_tree.specs.Code.{Code, done, assign, call, return, test, loop, defined}
+use Rattle.c_tree.specs.Functions.{fun_of, item_of, items_of}
 use Rattle.c_tree.specs.Names.{is_main}
 use Rattle.c_meaning.specs.Execution.{is_same, position_of, fun_named}
 use Rattle.c_meaning.specs.Program.{functions_of}
 use Rattle.c_meaning.specs.Checked.{Signature, signature_of, signature_named, same_type, same_types, same_signature, are_distinct, code_fits, returns_last, is_looped, is_main_function, function_fits, callable, item_fits, agrees, items_fit, defined_names, is_sound, is_checked, IsChecked}
 use Rattle.c_machine.specs.Decoded.{variables_of, variable_names, definitions, function_names, has_distinct, HasNames}
-use Rattle.c_machine.proofs.Means.{meant, Callee, statements_of, Typed, AllTyped}
+use Rattle.c_machine.proofs.Means.{meant, Straight, shape_of, statements_of, statements_in, shape_in, Callee, Typed, AllTyped}
+use Rattle.c_machine.proofs.Leading.{straight}
 use Rattle.c_machine.proofs.Typing.{same_type_is}
 use Rattle.c_machine.proofs.Sound.{place_in}
 
@@ -160,7 +158,7 @@ all_distinct names sigs (Defined g ∷ is) h =
     let s = signature_in g in
     let p = and_parts (agrees sigs s && item_fits names sigs (item_of (Defined g))) (items_fit names (s ∷ sigs) (items_of is)) h in
     let q = and_parts (agrees sigs s) (item_fits names sigs (item_of (Defined g))) p.0 in
-    let r = and_parts (are_distinct (variable_names (variables_of g))) (if is_main g.name then is_main_function (callable names sigs) (fun_of g) else is_looped (callable names sigs) (variables_of g) g.result (c_code g.body)) q.1 in
+    let r = and_parts (are_distinct (variable_names (variables_of g))) (if is_main g.name then is_main_function (callable names sigs) (fun_of g) else is_looped (callable names sigs) (variables_of g) g.result (statements_in g)) q.1 in
     and_from (has_distinct g) (list_all has_distinct (definitions is)) r.0 (all_distinct names (s ∷ sigs) is p.1)
 
 -- Functions by name -------------------------------------------------------------------------
@@ -234,46 +232,47 @@ called names (t ∷ sigs) g s h = called_in names t sigs g s (is_callable names 
 
 -- Functions ---------------------------------------------------------------------------------
 
-record IsLoop (f : CFun) : Type 0 where
+-- statements are one loop
+record IsLoop (c : Code) : Type 0 where
   label : List ℕ
-  block : List CStmt
-  is : f.body ≡ Looped label block
+  block : Code
+  is : c ≡ loop label block done
 
-straight_no_loop : (sigs : List Signature) (vars : List CVar) (t : CTy) (ss : List CStmt) → is_looped sigs vars t (onto ss done) ≡ true → ⊥
-straight_no_loop sigs vars t [] h = absurd (cc)
-straight_no_loop sigs vars t (stmt.Assign x e ∷ ss) h = absurd (cc)
-straight_no_loop sigs vars t (stmt.Call c ∷ ss) h = absurd (cc)
-straight_no_loop sigs vars t (stmt.Return e ∷ ss) h = absurd (cc)
+loop_of : (sigs : List Signature) (vars : List CVar) (t : CTy) (c : Code) → is_looped sigs vars t c ≡ true → IsLoop c
+loop_of sigs vars t (loop l body done) h = record { label = l; block = body; is = refl }
+loop_of sigs vars t done h = absurd (cc)
+loop_of sigs vars t (assign x e rest) h = absurd (cc)
+loop_of sigs vars t (call c rest) h = absurd (cc)
+loop_of sigs vars t (return e rest) h = absurd (cc)
+loop_of sigs vars t (test e a b rest) h = absurd (cc)
+loop_of sigs vars t (loop l body (assign x e rest)) h = absurd (cc)
+loop_of sigs vars t (loop l body (call c rest)) h = absurd (cc)
+loop_of sigs vars t (loop l body (return e rest)) h = absurd (cc)
+loop_of sigs vars t (loop l body (test e a b rest)) h = absurd (cc)
+loop_of sigs vars t (loop l body (loop m c rest)) h = absurd (cc)
 
-loop_of : (sigs : List Signature) (f : CFun) (body : CBody) → f.body ≡ body → is_looped sigs (variables_of f) f.result (c_code body) ≡ true → IsLoop f
-loop_of sigs f (Straight ss) e h = absurd (straight_no_loop sigs (variables_of f) f.result ss h)
-loop_of sigs f (Looped l ss) e h = record { label = l; block = ss; is = e }
-
-loop_fits : (sigs : List Signature) (vars : List CVar) (t : CTy) (body : CBody) → is_looped sigs vars t (c_code body) ≡ true → code_fits sigs vars t (onto (statements_of body) done) ≡ true
-loop_fits sigs vars t (Straight ss) h = absurd (straight_no_loop sigs vars t ss h)
-loop_fits sigs vars t (Looped l ss) h = h
+loop_fits : (sigs : List Signature) (vars : List CVar) (t : CTy) (c : Code) → is_looped sigs vars t c ≡ true → code_fits sigs vars t (statements_of (shape_of c)) ≡ true
+loop_fits sigs vars t c h =
+    let l = loop_of sigs vars t c h in
+    let fits : is_looped sigs vars t (loop l.label l.block done) ≡ true = subst (λ (d : Code). is_looped sigs vars t d ≡ true) l.is h in
+    subst (λ (d : Code). code_fits sigs vars t (statements_of (shape_of d)) ≡ true) (sym l.is) fits
 
 -- what is known of `main`
 pub record IsMain (sigs : List Signature) (f : CFun) : Type 0 where
-  pub block : List CStmt
-  pub is : f.body ≡ Straight block
   pub params : f.params ≡ []
   pub result : f.result ≡ Int
-  pub fits : code_fits sigs f.locals Int (onto block done) ≡ true
+  pub fits : code_fits sigs f.locals Int (statements_in f) ≡ true
 
 no_params : (ps : List CVar) → same_types (map (λ v. v.ty) ps) [] ≡ true → ps ≡ []
 no_params [] h = refl
 no_params (p ∷ ps) h = absurd (cc)
 
-main_body : (sigs : List Signature) (f : CFun) (body : CBody) → f.body ≡ body → f.params ≡ [] → f.result ≡ Int → (code_fits sigs f.locals Int (c_code body) && returns_last (c_code body)) ≡ true → IsMain sigs f
-main_body sigs f (Straight ss) e ep er h = record { block = ss; is = e; params = ep; result = er; fits = (and_parts (code_fits sigs f.locals Int (onto ss done)) (returns_last (onto ss done)) h).0 }
-main_body sigs f (Looped l ss) e ep er h = absurd (cc)
-
 main_of_fits : (sigs : List Signature) (f : CFun) → is_main_function sigs (fun_of f) ≡ true → IsMain sigs f
 main_of_fits sigs f h =
-    let p = and_parts (same_type f.result Int && same_types (map (λ v. v.ty) f.params) []) (code_fits sigs f.locals Int (c_code f.body) && returns_last (c_code f.body)) h in
+    let p = and_parts (same_type f.result Int && same_types (map (λ v. v.ty) f.params) []) (code_fits sigs f.locals Int (statements_in f) && returns_last (statements_in f)) h in
     let q = and_parts (same_type f.result Int) (same_types (map (λ v. v.ty) f.params) []) p.0 in
-    main_body sigs f f.body refl (no_params f.params q.1) (same_type_is f.result Int q.0) p.1
+    let r = and_parts (code_fits sigs f.locals Int (statements_in f)) (returns_last (statements_in f)) p.1 in
+    record { params = no_params f.params q.1; result = same_type_is f.result Int q.0; fits = r.0 }
 
 -- Programs ----------------------------------------------------------------------------------
 
@@ -300,10 +299,10 @@ has_names is h =
     let p = parts is h in
     record { functions = p.distinct; variables = all_distinct (function_names (definitions is)) [] is p.fit }
 
-fits_here : (sigs : List Signature) (f : CFun) (b : Bool) → is_main f.name ≡ b → function_fits sigs (fun_of f) ≡ true → (if b then is_main_function sigs (fun_of f) else is_looped sigs (variables_of f) f.result (c_code f.body)) ≡ true
+fits_here : (sigs : List Signature) (f : CFun) (b : Bool) → is_main f.name ≡ b → function_fits sigs (fun_of f) ≡ true → (if b then is_main_function sigs (fun_of f) else is_looped sigs (variables_of f) f.result (statements_in f)) ≡ true
 fits_here sigs f b e h =
-    let p = and_parts (are_distinct (variable_names (variables_of f))) (if is_main f.name then is_main_function sigs (fun_of f) else is_looped sigs (variables_of f) f.result (c_code f.body)) h in
-    subst (λ (c : Bool). (if c then is_main_function sigs (fun_of f) else is_looped sigs (variables_of f) f.result (c_code f.body)) ≡ true) e p.1
+    let p = and_parts (are_distinct (variable_names (variables_of f))) (if is_main f.name then is_main_function sigs (fun_of f) else is_looped sigs (variables_of f) f.result (statements_in f)) h in
+    subst (λ (c : Bool). (if c then is_main_function sigs (fun_of f) else is_looped sigs (variables_of f) f.result (statements_in f)) ≡ true) e p.1
 
 module _ (is : List CItem) (p : Parts is) where
   abbrev all : List Signature
@@ -323,7 +322,7 @@ module _ (is : List CItem) (p : Parts is) where
       let hg : h.name ≡ g = same_text h.name g (sym r.named) in
       let k = checked_at names [] is (place_in fs g) h p.fit r.there in
       let no : is_main h.name ≡ false = ap is_main (hg ∙ sym sg) ∙ c.no_main in
-      let l = loop_of (callable names k.sigs) h h.body refl (fits_here (callable names k.sigs) h false no k.fits) in
+      let l = loop_of (callable names k.sigs) (variables_of h) h.result (statements_in h) (fits_here (callable names k.sigs) h false no k.fits) in
       let same = pair_same all s (signature_in h) (ends_agree names [] is p.fit refl) (among s c.among) (ends_have [] is (place_in fs g) h r.there) (ap (is_same s.name) hg ∙ c.named) in
       record {
         fun = h;
@@ -336,15 +335,17 @@ module _ (is : List CItem) (p : Parts is) where
         result = sym same.result;
       }
 
-  main_fits : (sigs : List Signature) (f : CFun) (m : IsMain sigs f) → code_fits sigs (variables_of f) f.result (onto (statements_of f.body) done) ≡ true
+  main_fits : (sigs : List Signature) (f : CFun) (m : IsMain sigs f) → code_fits sigs (variables_of f) f.result (statements_in f) ≡ true
   main_fits sigs f m =
-      subst (λ (b : CBody). code_fits sigs (variables_of f) f.result (onto (statements_of b) done) ≡ true) (sym m.is)
-      (subst (λ (t : CTy). code_fits sigs (variables_of f) t (onto m.block done) ≡ true) (sym m.result)
-      (subst (λ (ps : List CVar). code_fits sigs (ps ++ f.locals) Int (onto m.block done) ≡ true) (sym m.params) m.fits))
+      subst (λ (t : CTy). code_fits sigs (variables_of f) t (statements_in f) ≡ true) (sym m.result)
+      (subst (λ (ps : List CVar). code_fits sigs (ps ++ f.locals) Int (statements_in f) ≡ true) (sym m.params) m.fits)
 
-  body_fits : (sigs : List Signature) (f : CFun) (b : Bool) → is_main f.name ≡ b → function_fits sigs (fun_of f) ≡ true → code_fits sigs (variables_of f) f.result (onto (statements_of f.body) done) ≡ true
-  body_fits sigs f true e h = main_fits sigs f (main_of_fits sigs f (fits_here sigs f true e h))
-  body_fits sigs f false e h = loop_fits sigs (variables_of f) f.result f.body (fits_here sigs f false e h)
+  body_fits : (sigs : List Signature) (f : CFun) (b : Bool) → is_main f.name ≡ b → function_fits sigs (fun_of f) ≡ true → code_fits sigs (variables_of f) f.result (statements_of (shape_in f)) ≡ true
+  body_fits sigs f true e h =
+      let fits = main_fits sigs f (main_of_fits sigs f (fits_here sigs f true e h)) in
+      let same = straight sigs (variables_of f) f.result (statements_in f) fits in
+      ap (λ s. code_fits sigs (variables_of f) f.result (statements_of s)) same ∙ fits
+  body_fits sigs f false e h = loop_fits sigs (variables_of f) f.result (statements_in f) (fits_here sigs f false e h)
 
   typed_at : (f : CFun) → CheckedAt names all f → Typed fs (place_in fs) f
   typed_at f c = record {
@@ -361,8 +362,7 @@ pub record Main (is : List CItem) : Type 0 where
   pub fun : CFun
   pub there : slice_get (definitions is) (place_in (definitions is) (codes "main")) ≡ Some fun
   pub found : fun_named (meant (definitions is)) (codes "main") ≡ Some (fun_of fun)
-  pub block : List CStmt
-  pub body : fun.body ≡ Straight block
+  pub straight : shape_in fun ≡ Straight (statements_in fun)
   pub params : fun.params ≡ []
   pub result : fun.result ≡ Int
 
@@ -376,5 +376,6 @@ main_there is h =
     let names = function_names fs in
     let r = found_at fs (codes "main") p.main in
     let k = checked_at names [] is (place_in fs (codes "main")) r.fun p.fit r.there in
-    let m = main_of_fits (callable names k.sigs) r.fun (fits_here (callable names k.sigs) r.fun true r.named k.fits) in
-    record { fun = r.fun; there = r.there; found = r.found; block = m.block; body = m.is; params = m.params; result = m.result }
+    let sigs = callable names k.sigs in
+    let m = main_of_fits sigs r.fun (fits_here sigs r.fun true r.named k.fits) in
+    record { fun = r.fun; there = r.there; found = r.found; straight = straight sigs r.fun.locals Int (statements_in r.fun) m.fits; params = m.params; result = m.result }

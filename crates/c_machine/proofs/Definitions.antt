@@ -5,8 +5,8 @@ use Rattle.std.proofs.lemmas.List.{append-nil, map-append}
 use Rattle.std.proofs.lemmas.List.Folds.{list_all-append}
 use Rattle.name_table.specs.Names.{has_name}
 use Rattle.c_tree.specs.declared.tree.CVar.{CVar}
-use Rattle.c_tree.specs.declared.tree.CFun.{CFun}
-use Rattle.c_tree.specs.declared.tree.CItem.{CItem}
+use Rattle.c_tree.specs.declared.function.CFun.{CFun}
+use Rattle.c_tree.specs.declared.function.CItem.{CItem}
 use Rattle.c_meaning.specs.Execution.{Names}
 use Rattle.c_meaning.specs.Checked.{are_distinct}
 use Rattle.c_machine.specs.Decoded.{variable_names, definitions, definition_in, function_names, function_of, functions_of, has_distinct}

@@ -6,8 +6,8 @@ use Rattle.c_tree.specs.declared.tree.CTy.TheVariants.{Obj, Long, Char, Int}
 use Rattle.c_tree.specs.declared.tree.CArg.{CArg}
 use Rattle.c_tree.specs.declared.tree.CArg.TheVariants as arg
 use Rattle.c_tree.specs.declared.tree.CVar.{CVar}
-use Rattle.c_tree.specs.declared.tree.CFun.{CFun}
-use Rattle.c_tree.specs.Code.{fun_of}
+use Rattle.c_tree.specs.declared.function.CFun.{CFun}
+use Rattle.c_tree.specs.Functions.{fun_of}
 use Rattle.c_meaning.specs.State.{Cell, Frame, blank, frame_of}
 use Rattle.c_meaning.specs.Execution.{arguments, cells, entry}
 use Rattle.c_meaning.specs.Checked.{AType, arguments_fit, atom_fits}

@@ -1,24 +1,21 @@
 -- A run only adds to its output.
 use Rattle.std.proofs.Common.{◌≡◌, ℕ, zero, suc, Bool, true, false, List, [], ◌∷◌, ◌++◌, Option, Some, None, refl, sym, ap, ◌∙◌, subst, append_assoc, if◌then◌else◌, ⊎_elim}
-use Rattle.std.specs.Prelude.{ℤ, pos, codes, ◌+ℤ◌}
+use Rattle.std.specs.Prelude.{ℤ, pos, negsuc, ◌==◌, codes, ◌+ℤ◌}
 use Rattle.std.proofs.lemmas.List.{append-nil}
 use Rattle.scheme_data.specs.Fixnum.{is_fixnum}
 use Rattle.base_io.specs.Observation.{Observation}
-use Rattle.prim_table.specs.declared.primitives.Primitive.TheVariants.{Add, Display, Newline}
+use Rattle.prim_table.specs.declared.primitives.Primitive.TheVariants.{Add, Less, Display, Newline}
 use Rattle.c_tree.specs.declared.tree.CTy.{CTy}
 use Rattle.c_tree.specs.declared.op.Op.{Op}
-use Rattle.c_tree.specs.declared.op.Op.TheVariants.{BoxLong, UnboxLong, Raise, Args, Status, Primitive as Prim_op}
-use Rattle.c_tree.specs.declared.tree.CBody.{CBody}
-use Rattle.c_tree.specs.declared.tree.CBody.TheVariants.{Straight, Looped}
-use Rattle.c_tree.specs.declared.tree.CStmt.{CStmt}
-use Rattle.c_tree.specs.declared.tree.CFun.{CFun}
+use Rattle.c_tree.specs.declared.op.Op.TheVariants.{BoxLong, BoxBool, UnboxLong, Truth, Raise, Args, Status, Primitive as Prim_op}
+use Rattle.c_tree.specs.declared.function.CFun.{CFun}
 use Rattle.c_tree.specs.declared.tree.Callee.{Callee}
 use Rattle.c_tree.specs.declared.tree.Callee.TheVariants as callee
 use Rattle.c_tree.specs.declared.tree.CExpr.{CExpr}
 use Rattle.c_tree.specs.declared.tree.CExpr.TheVariants as expr
-use Rattle.c_tree.specs.Code.{Code, done, assign, call, return, loop, Fun, onto}
+use Rattle.c_tree.specs.Code.{Code, done, assign, call, return, test, loop, Fun}
 use Rattle.c_meaning.specs.Word.{Word, Fixnum, False, True, Nil, Unspec, Eof, printed}
-use Rattle.c_meaning.specs.State.{Cell, AWord, ANumber, State, Frame, put, Answer, Has, Leaves, Stops, Ends, Faults, Flow, Next, Goes, Returns, Escapes, Raises, Spends, Fails, with, after, answer, take_from}
+use Rattle.c_meaning.specs.State.{Cell, AWord, ANumber, State, Frame, put, Answer, Has, Leaves, Stops, Ends, Faults, Flow, Next, Goes, Returns, Escapes, Raises, Spends, Fails, with, chosen, after, answer, take_from}
 use Rattle.c_meaning.specs.Operations.{Argument, ACell, AString, operate, fixnum_in}
 use Rattle.c_meaning.specs.Execution.{Names, Lower, is_same, position_of, arguments, cells, again, iterate, looped, entry, names_of, enter, invoke, eval, exec, run, fun_named}
 use Rattle.c_meaning.specs.Program.{shown}
@@ -26,7 +23,7 @@ use Rattle.c_machine.specs.declared.stepping.Frame.{Frame as Waiter}
 use Rattle.c_machine.specs.declared.program.Dest.{Dest}
 use Rattle.c_machine.specs.declared.program.Dest.TheVariants as dest
 use Rattle.c_machine.specs.Steps.{Config}
-use Rattle.c_machine.proofs.Means.{meant, wrap, flow_of, delivers, names_in, Callers, Running, Giving, Means}
+use Rattle.c_machine.proofs.Means.{Shape, Straight, Looped, meant, wrap, flows, flow_of, delivers, names_in, shape_in, Callers, Running, Giving, Means}
 
 -- the first bytes of these
 abbrev pub Begins : List ℕ → List ℕ → Type 0
@@ -83,6 +80,11 @@ either_grows : (o : List ℕ) (b : Bool) (x y : Flow) → Begins o (out x) → B
 either_grows o true x y h k = h
 either_grows o false x y h k = k
 
+chosen_grows : (c : Cell) (s : State) (x y : Flow) → Begins s.output (out x) → Begins s.output (out y) → Begins s.output (out (chosen c s x y))
+chosen_grows (ANumber (pos n)) s x y h k = either_grows s.output (n == 0) y x k h
+chosen_grows (ANumber (negsuc n)) s x y h k = h
+chosen_grows (AWord w) s x y h k = begins_self s.output
+
 abbrev LowerGrows : Lower → Type 0
 LowerGrows lower = (names : Names) (c : Code) (f : Frame) (s : State) → Begins s.output (out (lower names c f s))
 
@@ -108,6 +110,7 @@ looped_grows lower g names done f s = begins_self s.output
 looped_grows lower g names (assign x e rest) f s = begins_self s.output
 looped_grows lower g names (call c rest) f s = begins_self s.output
 looped_grows lower g names (return e rest) f s = begins_self s.output
+looped_grows lower g names (test e a b rest) f s = begins_self s.output
 looped_grows lower g names (loop l body rest) f s = iterate_grows lower g names l body f s
 
 enter_grows : (lower : Lower) → LowerGrows lower → (o : Option Fun) (cs : List Cell) (s : State) → Begins s.output (out_of (enter lower o cs s))
@@ -118,6 +121,14 @@ enter_grows lower g (Some f) cs s =
 box_grows : (args : List Argument) (s : State) → Begins s.output (out_of (operate BoxLong args s))
 box_grows (ACell (ANumber n) ∷ []) s = begins_self s.output
 box_grows _ s = begins_self s.output
+
+box_truth_grows : (args : List Argument) (s : State) → Begins s.output (out_of (operate BoxBool args s))
+box_truth_grows (ACell (ANumber n) ∷ []) s = begins_self s.output
+box_truth_grows _ s = begins_self s.output
+
+truth_grows : (args : List Argument) (s : State) → Begins s.output (out_of (operate Truth args s))
+truth_grows (ACell (AWord w) ∷ []) s = begins_self s.output
+truth_grows _ s = begins_self s.output
 
 fixnum_grows : (w : Word) (s : State) → Begins s.output (out_of (fixnum_in w s))
 fixnum_grows (Fixnum n) s = begins_self s.output
@@ -151,6 +162,10 @@ add_grows : (args : List Argument) (s : State) → Begins s.output (out_of (oper
 add_grows (ACell (ANumber a) ∷ ACell (ANumber b) ∷ []) s = sum_grows (is_fixnum (a +ℤ b)) (a +ℤ b) s
 add_grows _ s = begins_self s.output
 
+less_grows : (args : List Argument) (s : State) → Begins s.output (out_of (operate (Prim_op Less) args s))
+less_grows (ACell (ANumber a) ∷ ACell (ANumber b) ∷ []) s = begins_self s.output
+less_grows _ s = begins_self s.output
+
 display_grows : (args : List Argument) (s : State) → Begins s.output (out_of (operate (Prim_op Display) args s))
 display_grows (ACell (AWord w) ∷ []) s = (printed w, refl)
 display_grows _ s = begins_self s.output
@@ -161,11 +176,14 @@ newline_grows _ s = begins_self s.output
 
 operate_grows : (op : Op) (args : List Argument) (s : State) → Begins s.output (out_of (operate op args s))
 operate_grows BoxLong args s = box_grows args s
+operate_grows BoxBool args s = box_truth_grows args s
 operate_grows UnboxLong args s = unbox_grows args s
+operate_grows Truth args s = truth_grows args s
 operate_grows Raise args s = raise_grows args s
 operate_grows Args args s = args_grows args s
 operate_grows Status args s = status_grows args s
 operate_grows (Prim_op Add) args s = add_grows args s
+operate_grows (Prim_op Less) args s = less_grows args s
 operate_grows (Prim_op Display) args s = display_grows args s
 operate_grows (Prim_op Newline) args s = newline_grows args s
 
@@ -185,6 +203,11 @@ module _ (p : List Fun) (lower : Lower) (g : LowerGrows lower) where
   exec_grows names (call c rest) f s =
       with_grows s.output (eval p lower names (expr.Call c) f s) f (λ _ s1. exec p lower names rest f s1) (eval_grows names (expr.Call c) f s) (λ _ s1. exec_grows names rest f s1)
   exec_grows names (return e rest) f s = with_grows s.output (eval p lower names e f s) f (λ c s1. Returns c s1) (eval_grows names e f s) (λ c s1. begins_self s1.output)
+  exec_grows names (test e a b rest) f s =
+      with_grows s.output (eval p lower names e f s) f (λ c s1. after (chosen c s1 (exec p lower names a f s1) (exec p lower names b f s1)) (λ f1 s2. exec p lower names rest f1 s2)) (eval_grows names e f s) (λ c s1.
+      after_grows s1.output (chosen c s1 (exec p lower names a f s1) (exec p lower names b f s1)) (λ f1 s2. exec p lower names rest f1 s2)
+      (chosen_grows c s1 (exec p lower names a f s1) (exec p lower names b f s1) (exec_grows names a f s1) (exec_grows names b f s1)) (λ f1 s2. exec_grows names rest f1 s2)
+      )
   exec_grows names (loop l body rest) f s =
       after_grows s.output (iterate lower names l body f s) (λ f1 s1. exec p lower names rest f1 s1) (iterate_grows lower g names l body f s) (λ f1 s1. exec_grows names rest f1 s1)
 
@@ -192,14 +215,21 @@ pub run_grows : (p : List Fun) (b : ℕ) → LowerGrows (run p b)
 run_grows p zero names c f s = begins_self s.output
 run_grows p (suc b) names c f s = exec_grows p (run p b) (run_grows p b) names c f s
 
-wrap_grows : (p : List Fun) (b : ℕ) (names : Names) (body : CBody) (o : List ℕ) (x : Flow) → Begins o (out x) → Begins o (out (wrap p b names body x))
-wrap_grows p b names (Straight ss) o x h = h
-wrap_grows p b names (Looped l ss) o x h = again_grows (run p (suc b)) (run_grows p (suc b)) o names l (onto ss done) x h
+wrap_grows : (p : List Fun) (b : ℕ) (names : Names) (shape : Shape) (o : List ℕ) (x : Flow) → Begins o (out x) → Begins o (out (wrap p b names shape x))
+wrap_grows p b names (Straight c) o x h = h
+wrap_grows p b names (Looped l c) o x h = again_grows (run p (suc b)) (run_grows p (suc b)) o names l c x h
 
-delivers_grows : (p : List Fun) (b : ℕ) (names : Names) (to : Dest) (left : List CStmt) (fr : Frame) (c : Cell) (s : State) → Begins s.output (out (delivers p b names to left fr c s))
-delivers_grows p b names (dest.Local x) left fr c s = exec_grows p (run p b) (run_grows p b) names (onto left done) (put x c fr) s
-delivers_grows p b names dest.Nowhere left fr c s = exec_grows p (run p b) (run_grows p b) names (onto left done) fr s
-delivers_grows p b names dest.Caller left fr c s = begins_self s.output
+flows_grow : (p : List Fun) (b : ℕ) (names : Names) (left : List Code) (fr : Frame) (s : State) → Begins s.output (out (flows p b names left fr s))
+flows_grow p b names [] fr s = begins_self s.output
+flows_grow p b names (c ∷ cs) fr s =
+    after_grows s.output (exec p (run p b) names c fr s) (λ fr1 s1. flows p b names cs fr1 s1) (exec_grows p (run p b) (run_grows p b) names c fr s) (λ fr1 s1. flows_grow p b names cs fr1 s1)
+
+delivers_grows : (p : List Fun) (b : ℕ) (names : Names) (to : Dest) (left other : List Code) (fr : Frame) (c : Cell) (s : State) → Begins s.output (out (delivers p b names to left other fr c s))
+delivers_grows p b names (dest.Local x) left other fr c s = flows_grow p b names left (put x c fr) s
+delivers_grows p b names dest.Nowhere left other fr c s = flows_grow p b names left fr s
+delivers_grows p b names dest.Caller left other fr c s = begins_self s.output
+delivers_grows p b names (dest.Test at) left other fr c s =
+    chosen_grows c s (flows p b names left fr s) (flows p b names other fr s) (flows_grow p b names left fr s) (flows_grow p b names other fr s)
 
 shown_grows : (x : Flow) → (shown x).output ≡ out x
 shown_grows (Next f s) = refl
@@ -219,18 +249,18 @@ callers_grow fs place (r ∷ rs) below turns t k h x =
     let w = h.0 in
     let p = meant fs in
     let names = names_in w.fun in
-    let inner = with (answer x) w.frame (delivers p w.bound names r.to w.left w.frame) in
-    let a = with_grows (out x) (answer x) w.frame (delivers p w.bound names r.to w.left w.frame) (subst (λ (q : List ℕ). Begins (out x) q) (sym (answer_grows x)) (begins_self (out x))) (delivers_grows p w.bound names r.to w.left w.frame) in
-    let b = wrap_grows p w.bound names w.fun.body (out x) inner a in
-    let d = callers_grow fs place rs w.under turns w.fun.result w.outer h.1 (wrap p w.bound names w.fun.body inner) in
-    subst (λ (q : Observation). Begins (out x) q.output) (sym (w.whole x)) (begins_after (out x) (out (wrap p w.bound names w.fun.body inner)) _ b d)
+    let inner = with (answer x) w.frame (delivers p w.bound names r.to w.left w.other w.frame) in
+    let a = with_grows (out x) (answer x) w.frame (delivers p w.bound names r.to w.left w.other w.frame) (subst (λ (q : List ℕ). Begins (out x) q) (sym (answer_grows x)) (begins_self (out x))) (delivers_grows p w.bound names r.to w.left w.other w.frame) in
+    let b = wrap_grows p w.bound names (shape_in w.fun) (out x) inner a in
+    let d = callers_grow fs place rs w.under turns w.fun.result w.outer h.1 (wrap p w.bound names (shape_in w.fun) inner) in
+    subst (λ (q : Observation). Begins (out x) q.output) (sym (w.whole x)) (begins_after (out x) (out (wrap p w.bound names (shape_in w.fun) inner)) _ b d)
 
 module _ (fs : List CFun) (place : List ℕ → ℕ) (c : Config) (o : List ℕ) (w : Observation) where
   running_begins : Running fs place c o w → Begins o w.output
   running_begins m =
       let p = meant fs in
       let x = flow_of p m.bound m.fun m.left m.frame m.state in
-      let a = wrap_grows p m.bound (names_in m.fun) m.fun.body m.state.output (exec p (run p m.bound) (names_in m.fun) (onto m.left done) m.frame m.state) (exec_grows p (run p m.bound) (run_grows p m.bound) (names_in m.fun) (onto m.left done) m.frame m.state) in
+      let a = wrap_grows p m.bound (names_in m.fun) (shape_in m.fun) m.state.output (flows p m.bound (names_in m.fun) m.left m.frame m.state) (flows_grow p m.bound (names_in m.fun) m.left m.frame m.state) in
       let d = callers_grow fs place m.frames m.below m.state.turns m.fun.result m.outer m.callers x in
       subst (λ (q : Observation). Begins o q.output) (sym m.whole) (subst (λ (q : List ℕ). Begins q (m.outer x).output) (sym m.out) (begins_after m.state.output (out x) (m.outer x).output a d))
 

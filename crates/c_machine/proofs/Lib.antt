@@ -3,8 +3,11 @@ pub mod Checking
 pub mod Definitions
 pub mod Distinct
 pub mod Filled
+pub mod Flows
+pub mod Folding
 pub mod Grows
 pub mod Items
+pub mod Leading
 pub mod Means
 pub mod Numbers
 pub mod Operands

@@ -1,28 +1,27 @@
 -- What a state of the machine stands for.
-use Rattle.std.specs.Prelude.{◌≡◌, ℕ, suc, ◌+◌, ◌-◌, ◌*◌, ◌<◌, ◌≤◌, List, [], ◌∷◌, ◌++◌, map, length, Option, Some, None, slice_get, drop, true, ◌⊎◌}
+use Rattle.std.specs.Prelude.{◌≡◌, ℕ, suc, ◌+◌, ◌-◌, ◌*◌, ◌<◌, ◌≤◌, min, List, [], ◌∷◌, ◌++◌, map, length, Option, Some, None, slice_get, true, ◌⊎◌}
 use Rattle.base_io.specs.declared.end.End.TheVariants.{Fault}
 use Rattle.base_io.specs.declared.end.FaultKind.TheVariants.{Tag}
 use Rattle.base_io.specs.Observation.{Observation}
 use Rattle.c_tree.specs.declared.tree.CTy.{CTy}
 use Rattle.c_tree.specs.declared.tree.CTy.TheVariants.{Int}
-use Rattle.c_tree.specs.declared.tree.CStmt.{CStmt}
-use Rattle.c_tree.specs.declared.tree.CBody.{CBody}
-use Rattle.c_tree.specs.declared.tree.CBody.TheVariants.{Straight, Looped}
 use Rattle.c_tree.specs.declared.tree.CVar.{CVar}
-use Rattle.c_tree.specs.declared.tree.CFun.{CFun}
-use Rattle.c_tree.specs.Code.{done, Fun, fun_of, onto}
-use Rattle.c_meaning.specs.State.{Cell, State, Frame, put, Flow, Returns, with, answer}
-use Rattle.c_meaning.specs.Execution.{Names, again, exec, run, fun_named}
+use Rattle.c_tree.specs.declared.function.CFun.{CFun}
+use Rattle.c_tree.specs.Code.{Code, done, assign, call, return, test, loop, Fun}
+use Rattle.c_tree.specs.Functions.{fun_of}
+use Rattle.c_meaning.specs.State.{Cell, State, Frame, put, Flow, Next, Returns, with, after, chosen, answer}
+use Rattle.c_meaning.specs.Execution.{Names, position_of, again, exec, run, fun_named}
 use Rattle.c_meaning.specs.Program.{shown}
 use Rattle.c_meaning.specs.Checked.{Signature, signature_named, code_fits}
 use Rattle.c_machine.specs.declared.program.Dest.{Dest}
 use Rattle.c_machine.specs.declared.program.Dest.TheVariants as dest
 use Rattle.c_machine.specs.declared.program.Instr.{Instr}
 use Rattle.c_machine.specs.declared.program.Instr.TheVariants as instr
+use Rattle.c_machine.specs.declared.program.Line.{Line}
 use Rattle.c_machine.specs.declared.program.Function.{Function}
 use Rattle.c_machine.specs.declared.stepping.Frame.{Frame as Waiter}
-use Rattle.c_machine.specs.Steps.{Config, Move, Goes, Ends, Needs, act, instr_at, advanced}
-use Rattle.c_machine.specs.Decoded.{instrs_of, code_of, variables_of, variable_names, functions_of, function_names}
+use Rattle.c_machine.specs.Steps.{Config, Move, Goes, Ends, Needs, act, line_at, advanced}
+use Rattle.c_machine.specs.Decoded.{line, call_of, expr_instr, code_of, variables_of, variable_names, functions_of, function_names}
 use Rattle.c_machine.proofs.Typing.{slot_of, Fits, Holds}
 
 -- Programs ----------------------------------------------------------------------------------
@@ -33,62 +32,122 @@ meant fs = map fun_of fs
 abbrev pub decoded : List CFun → List Function
 decoded fs = functions_of (function_names fs) fs
 
+-- a function's statements: one loop, or others
+pub data Shape : Type 0 where
+  Straight : Code → Shape
+  Looped : List ℕ → Code → Shape
+
+abbrev pub shape_of : Code → Shape
+shape_of (loop l body done) = Looped l body
+shape_of c = Straight c
+
+-- the statements of a function, or of the block of its loop
+abbrev pub statements_of : Shape → Code
+statements_of (Straight c) = c
+statements_of (Looped l c) = c
+
+abbrev pub last_in : Shape → Instr
+last_in (Straight c) = instr.Stop
+last_in (Looped l c) = instr.Turn
+
+abbrev pub statements_in : CFun → Code
+statements_in f = (fun_of f).code
+
+abbrev pub shape_in : CFun → Shape
+shape_in f = shape_of (statements_in f)
+
+abbrev pub names_in : CFun → Names
+names_in f = variable_names (variables_of f)
+
 -- a signature is that of a function that is there, and whose statements are a loop
 pub record Callee (fs : List CFun) (at : ℕ) (g : List ℕ) (s : Signature) : Type 0 where
   pub fun : CFun
   pub there : slice_get fs at ≡ Some fun
   pub found : fun_named (meant fs) g ≡ Some (fun_of fun)
   pub label : List ℕ
-  pub block : List CStmt
-  pub looped : fun.body ≡ Looped label block
+  pub block : Code
+  pub looped : statements_in fun ≡ loop label block done
   pub params : map (λ v. v.ty) fun.params ≡ s.params
   pub result : fun.result ≡ s.result
 
 abbrev pub Callees : List CFun → (List ℕ → ℕ) → List Signature → Type 0
 Callees fs place sigs = (g : List ℕ) (s : Signature) → signature_named sigs g ≡ Some s → Callee fs (place g) g s
 
-abbrev pub statements_of : CBody → List CStmt
-statements_of (Straight ss) = ss
-statements_of (Looped l ss) = ss
-
-abbrev pub last_of : CBody → Instr
-last_of (Straight ss) = instr.Stop
-last_of (Looped l ss) = instr.Turn
-
-abbrev pub names_in : CFun → Names
-names_in f = variable_names (variables_of f)
-
 -- a function whose statements have the types that are wanted
 pub record Typed (fs : List CFun) (place : List ℕ → ℕ) (f : CFun) : Type 0 where
   pub sigs : List Signature
   pub callees : Callees fs place sigs
-  pub fits : code_fits sigs (variables_of f) f.result (onto (statements_of f.body) done) ≡ true
+  pub fits : code_fits sigs (variables_of f) f.result (statements_of (shape_in f)) ≡ true
 
 abbrev pub AllTyped : List CFun → (List ℕ → ℕ) → Type 0
 AllTyped fs place = (k : ℕ) (f : CFun) → slice_get fs k ≡ Some f → Typed fs place f
 
+-- Places ------------------------------------------------------------------------------------
+
+-- the nearest place where a function may go on after an instruction
+abbrev pub nearest : Dest → ℕ → ℕ
+nearest (dest.Local x) next = next
+nearest dest.Nowhere next = next
+nearest dest.Caller next = next
+nearest (dest.Test other) next = min other next
+
+-- an instruction stands at a place, and the function goes on ahead of it
+pub record Stepping (code : List Line) (at : ℕ) (to : Dest) (i : Instr) (next : ℕ) : Type 0 where
+  pub there : slice_get code at ≡ Some (line i next)
+  pub ahead : at < nearest to next
+
+module _ (names funs : Names) (code : List Line) where
+  -- from a place on, these statements stand there, after which the function goes on at another. A loop is no statement of a checked block
+  unfoldable pub Leads : Code → ℕ → ℕ → Type 0
+  Leads done at on = at ≡ on
+  Leads (assign x e rest) at on =
+      (next : ℕ) × Stepping code at (dest.Local (position_of x names)) (expr_instr names funs (dest.Local (position_of x names)) e) next × Leads rest next on
+  Leads (call c rest) at on = (next : ℕ) × Stepping code at dest.Nowhere (call_of names funs dest.Nowhere c.callee c.args) next × Leads rest next on
+  Leads (return e rest) at on = (next : ℕ) × Stepping code at dest.Caller (expr_instr names funs dest.Caller e) next × Leads rest next on
+  Leads (test e a b rest) at on =
+      (next : ℕ) × (other : ℕ) × (after : ℕ) × Stepping code at (dest.Test other) (expr_instr names funs (dest.Test other) e) next
+      × Leads a next after × Leads b other after × Leads rest after on
+  Leads (loop l body rest) at on = Unit {0}
+
+  -- from a place on, these pieces of code stand there, and then the last instruction
+  unfoldable pub LeadsAll : Instr → List Code → ℕ → Type 0
+  LeadsAll last [] at = (next : ℕ) × (slice_get code at ≡ Some (line last next))
+  LeadsAll last (c ∷ cs) at = (on : ℕ) × Leads c at on × LeadsAll last cs on
+
+-- pieces of code have the types that are wanted
+abbrev pub AllFit : List Signature → List CVar → CTy → List Code → Type 0
+AllFit sigs vars result [] = Unit {0}
+AllFit sigs vars result (c ∷ cs) = (code_fits sigs vars result c ≡ true) × AllFit sigs vars result cs
+
 -- Flows -------------------------------------------------------------------------------------
 
 -- what becomes of the end of the statements that are left
-abbrev pub wrap : List Fun → ℕ → Names → CBody → Flow → Flow
-wrap p b names (Straight ss) x = x
-wrap p b names (Looped l ss) x = again (run p (suc b)) names l (onto ss done) x
+abbrev pub wrap : List Fun → ℕ → Names → Shape → Flow → Flow
+wrap p b names (Straight c) x = x
+wrap p b names (Looped l c) x = again (run p (suc b)) names l c x
 
--- these statements, and then what follows
-abbrev pub flow_of : List Fun → ℕ → CFun → List CStmt → Frame → State → Flow
-flow_of p b f left fr s = wrap p b (names_in f) f.body (exec p (run p b) (names_in f) (onto left done) fr s)
+-- these pieces of code, one after the other
+abbrev pub flows : List Fun → ℕ → Names → List Code → Frame → State → Flow
+flows p b names [] fr s = Next fr s
+flows p b names (c ∷ cs) fr s = after (exec p (run p b) names c fr s) (λ fr1 s1. flows p b names cs fr1 s1)
 
--- what is done with a value
-abbrev pub delivers : List Fun → ℕ → Names → Dest → List CStmt → Frame → Cell → State → Flow
-delivers p b names (dest.Local x) left fr c s = exec p (run p b) names (onto left done) (put x c fr) s
-delivers p b names dest.Nowhere left fr c s = exec p (run p b) names (onto left done) fr s
-delivers p b names dest.Caller left fr c s = Returns c s
+-- these pieces of code, and then what follows
+abbrev pub flow_of : List Fun → ℕ → CFun → List Code → Frame → State → Flow
+flow_of p b f left fr s = wrap p b (names_in f) (shape_in f) (flows p b (names_in f) left fr s)
+
+-- what is done with a value, where one of two is left
+abbrev pub delivers : List Fun → ℕ → Names → Dest → List Code → List Code → Frame → Cell → State → Flow
+delivers p b names (dest.Local x) left other fr c s = flows p b names left (put x c fr) s
+delivers p b names dest.Nowhere left other fr c s = flows p b names left fr s
+delivers p b names dest.Caller left other fr c s = Returns c s
+delivers p b names (dest.Test at) left other fr c s = chosen c s (flows p b names left fr s) (flows p b names other fr s)
 
 -- a place that a value of this type may go to
 abbrev pub DestFits : List CVar → CTy → CTy → Dest → Type 0
 DestFits vars result t (dest.Local x) = (v : CVar) × (slice_get vars x ≡ Some v) × (t ≡ v.ty)
 DestFits vars result t dest.Nowhere = Unit {0}
 DestFits vars result t dest.Caller = t ≡ result
+DestFits vars result t (dest.Test at) = t ≡ Int
 
 -- States ------------------------------------------------------------------------------------
 
@@ -96,31 +155,39 @@ abbrev pub config : ℕ → ℕ → List ℕ → List ℕ → ℕ → List Waite
 config k pc below env turns frames v = record { fun = k; pc = pc; base = length below; turns = turns; slots = below ++ env; frames = frames; value = v }
 
 module _ (fs : List CFun) (place : List ℕ → ℕ) where
-  -- at a place of its code, a function has these statements left
-  pub record Stands (k pc : ℕ) (f : CFun) (left : List CStmt) (fr : Frame) (env : List ℕ) : Type 0 where
+  -- at a place of its code, a function has these pieces left
+  pub record Stands (k pc : ℕ) (f : CFun) (left : List Code) (fr : Frame) (env : List ℕ) : Type 0 where
     pub there : slice_get fs k ≡ Some f
     pub sigs : List Signature
     pub callees : Callees fs place sigs
-    pub fits : code_fits sigs (variables_of f) f.result (onto left done) ≡ true
-    pub more : List Instr
-    pub leads : drop pc (code_of (names_in f) (function_names fs) f.body) ≡ instrs_of (names_in f) (function_names fs) left ++ last_of f.body ∷ more
+    pub fits : AllFit sigs (variables_of f) f.result left
+    pub leads : LeadsAll (names_in f) (function_names fs) (code_of (names_in f) (function_names fs) (statements_in f)) (last_in (shape_in f)) left pc
     pub holds : Holds (variables_of f) fr env
+
+  -- where a value may choose, other pieces are left at another place
+  abbrev pub Forks : Dest → ℕ → CFun → List Code → Frame → List ℕ → Type 0
+  Forks (dest.Local x) k f other fr env = Unit {0}
+  Forks dest.Nowhere k f other fr env = Unit {0}
+  Forks dest.Caller k f other fr env = Unit {0}
+  Forks (dest.Test at) k f other fr env = Stands k at f other fr env
 
   -- a function that waits for the value of a call
   pub record Waits (r : Waiter) (below : List ℕ) (turns : ℕ) (t : CTy) (k : Flow → Observation) : Type 0 where
     pub bound : ℕ
     pub fun : CFun
-    pub left : List CStmt
+    pub left : List Code
+    pub other : List Code
     pub frame : Frame
     pub env : List ℕ
     pub under : List ℕ
     pub outer : Flow → Observation
     pub stands : Stands r.fun r.next fun left frame env
+    pub forks : Forks r.to r.fun fun other frame env
     pub slots : below ≡ under ++ env
     pub base : r.base ≡ length under
     pub enough : turns ≤ bound
     pub fits : DestFits (variables_of fun) fun.result t r.to
-    pub whole : (x : Flow) → k x ≡ outer (wrap (meant fs) bound (names_in fun) fun.body (with (answer x) frame (delivers (meant fs) bound (names_in fun) r.to left frame)))
+    pub whole : (x : Flow) → k x ≡ outer (wrap (meant fs) bound (names_in fun) (shape_in fun) (with (answer x) frame (delivers (meant fs) bound (names_in fun) r.to left other frame)))
 
   -- what the functions that wait make of the end of the innermost
   unfoldable pub Callers : List Waiter → List ℕ → ℕ → CTy → (Flow → Observation) → Type 0
@@ -138,7 +205,7 @@ module _ (fs : List CFun) (place : List ℕ → ℕ) where
     pub state : State
     pub bound : ℕ
     pub fun : CFun
-    pub left : List CStmt
+    pub left : List Code
     pub frame : Frame
     pub outer : Flow → Observation
     pub is : c ≡ config fn pc below env state.turns frames value
@@ -172,13 +239,16 @@ module _ (fs : List CFun) (place : List ℕ → ℕ) where
 -- Work --------------------------------------------------------------------------------------
 
 -- the steps that are left of an iteration, at most
-abbrev pub steps_from : Option Instr → ℕ → ℕ
+abbrev pub steps_by : Instr → ℕ → ℕ
+steps_by (instr.Does to a) n = 2 * n
+steps_by (instr.Call to g args) n = 2 * n
+steps_by instr.Turn n = 0
+steps_by instr.Give n = 1
+steps_by instr.Stop n = 2 * n
+
+abbrev pub steps_from : Option Line → ℕ → ℕ
 steps_from None n = 2 * n
-steps_from (Some (instr.Does to a)) n = 2 * n
-steps_from (Some (instr.Call to g args)) n = 2 * n
-steps_from (Some instr.Turn) n = 0
-steps_from (Some instr.Give) n = 1
-steps_from (Some instr.Stop) n = 2 * n
+steps_from (Some l) n = steps_by l.instr n
 
 abbrev pub left_in : Option Function → ℕ → ℕ
 left_in None pc = 0
@@ -188,11 +258,11 @@ abbrev pub left_at : List Function → ℕ → ℕ → ℕ
 left_at funs k pc = left_in (slice_get funs k) pc
 
 abbrev pub steps_at : List Function → ℕ → ℕ → ℕ
-steps_at funs k pc = steps_from (instr_at funs k pc) (left_at funs k pc)
+steps_at funs k pc = steps_from (line_at funs k pc) (left_at funs k pc)
 
 unfoldable pub steps_in : List Function → List Waiter → ℕ
 steps_in funs [] = 0
-steps_in funs (r ∷ rs) = (2 * left_at funs r.fun r.next + 1) + steps_in funs rs
+steps_in funs (r ∷ rs) = (2 * left_at funs r.fun (nearest r.to r.next) + 1) + steps_in funs rs
 
 unfoldable pub total : List Function → ℕ
 total [] = 0
@@ -204,19 +274,19 @@ work funs c = c.turns * (2 * total funs + 1) + (steps_at funs c.fun c.pc + steps
 
 -- Soundness ---------------------------------------------------------------------------------
 
-abbrev pub NeedsAt : Option Instr → List Function → Config → Type 0
+abbrev pub NeedsAt : Option Line → List Function → Config → Type 0
 NeedsAt None funs c = ⊥
-NeedsAt (Some i) funs c = Needs i funs c
+NeedsAt (Some l) funs c = Needs l.instr funs (advanced l.next c)
 
-abbrev pub act_at : Option Instr → List Function → Config → Move
+abbrev pub act_at : Option Line → List Function → Config → Move
 act_at None funs c = Ends (Fault Tag)
-act_at (Some i) funs c = act i funs c
+act_at (Some l) funs c = act l.instr funs (advanced l.next c)
 
 module _ (fs : List CFun) (place : List ℕ → ℕ) where
   abbrev pub Kept : Config → List ℕ → Observation → Move → Type 0
   Kept c o w (Goes d bytes) = Means fs place d (o ++ bytes) w × (work (decoded fs) d < work (decoded fs) c)
   Kept c o w (Ends e) = w ≡ record { output = o; end = e }
 
-  -- a step at this instruction is safe, keeps what the state means, and comes nearer to the end
-  abbrev pub Sound : Config → List ℕ → Observation → Option Instr → Type 0
-  Sound c o w i = NeedsAt i (decoded fs) (advanced c) × Kept c o w (act_at i (decoded fs) (advanced c))
+  -- a step at this line is safe, keeps what the state means, and comes nearer to the end
+  abbrev pub Sound : Config → List ℕ → Observation → Option Line → Type 0
+  Sound c o w l = NeedsAt l (decoded fs) c × Kept c o w (act_at l (decoded fs) c)

@@ -1,7 +1,7 @@
 -- Numbers and words, and their bits.
 use Rattle.std.proofs.Common.{◌≡◌, ℕ, ◌+◌, ◌-◌, ◌*◌, ◌/◌, ◌%◌, ◌^◌, ◌<◌, Bool, true, false, refl, ap, ◌∙◌, arith, if◌then◌else◌}
 use Rattle.std.specs.Prelude.{nat_lt, nat_eq, ℤ, pos, negsuc}
-use Rattle.std.proofs.lemmas.Bool.{ltb-true, lt-ltb, le-ltb, eq-eqb}
+use Rattle.std.proofs.lemmas.Bool.{ltb-true, lt-ltb, le-ltb, eq-eqb, ne_eqb}
 use Rattle.scheme_data.specs.Decimal.{number_text}
 use Rattle.scheme_data.specs.Fixnum.{IsFixnum, long_word, fixnum_word}
 use Rattle.c_meaning.specs.Word.{Word, Fixnum, False, True, Nil, Unspec, Eof, number_of, printed}
@@ -48,6 +48,12 @@ fixnum_tag (negsuc n) h =
     let w = 2 ^ 64 - 8 * (n + 1) in
     let e : w % 8 ≡ 0 = omega arith in
     eq-eqb (w % 8) 0 e
+
+pub fixnum_no_constant : (z : ℤ) → IsFixnum z → nat_eq (fixnum_word z) 3 ≡ false
+fixnum_no_constant (pos n) h = ne_eqb (8 * n) 3 (omega arith)
+fixnum_no_constant (negsuc n) h =
+    let lt = ltb-true n (2 ^ 60) h in
+    ne_eqb (2 ^ 64 - 8 * (n + 1)) 3 (omega arith)
 
 -- a word whose number has the tag of its kind
 abbrev pub WordFits : Word → Type 0

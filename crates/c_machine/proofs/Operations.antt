@@ -1,13 +1,13 @@
 -- Each operation gives what its action gives.
 use Rattle.std.proofs.Common.{◌≡◌, ℕ, ◌<◌, ◌%◌, Bool, true, false, List, [], ◌∷◌, ◌++◌, length, refl, sym, ap, subst, ◌∙◌, if◌then◌else◌, arith}
-use Rattle.std.specs.Prelude.{ℤ, pos, negsuc, ◌+ℤ◌, codes, nat_lt, nat_le, nat_eq}
+use Rattle.std.specs.Prelude.{ℤ, pos, negsuc, ◌+ℤ◌, int_lt, codes, nat_lt, nat_le, nat_eq}
 use Rattle.std.proofs.lemmas.List.{append-nil}
 use Rattle.std.proofs.lemmas.Bool.{and_parts, leb-true, lt-ltb}
 use Rattle.scheme_data.specs.Fixnum.{IsFixnum, is_fixnum, long_word, fixnum_word}
 use Rattle.base_io.specs.declared.end.End.TheVariants.{Raised}
-use Rattle.prim_table.specs.declared.primitives.Primitive.TheVariants.{Add, Display, Newline}
+use Rattle.prim_table.specs.declared.primitives.Primitive.TheVariants.{Add, Less, Display, Newline}
 use Rattle.c_tree.specs.declared.op.Op.{Op}
-use Rattle.c_tree.specs.declared.op.Op.TheVariants.{BoxLong, UnboxLong, Raise, Args, Status, Primitive as Prim_op}
+use Rattle.c_tree.specs.declared.op.Op.TheVariants.{BoxLong, BoxBool, UnboxLong, Truth, Raise, Args, Status, Primitive as Prim_op}
 use Rattle.c_tree.specs.declared.tree.CTy.{CTy}
 use Rattle.c_tree.specs.declared.tree.CTy.TheVariants.{Obj, Long, Int}
 use Rattle.c_tree.specs.declared.tree.CAtom.{CAtom}
@@ -17,14 +17,14 @@ use Rattle.c_tree.specs.declared.tree.CArg.TheVariants as arg
 use Rattle.c_tree.specs.declared.tree.CVar.{CVar}
 use Rattle.c_meaning.specs.Word.{Word, Fixnum, False, True, Nil, Unspec, Eof, number_of}
 use Rattle.c_meaning.specs.State.{Cell, AWord, ANumber, State, Frame, Answer, Has, Leaves, Stops, Ends, Faults}
-use Rattle.c_meaning.specs.Operations.{ACell, operate, print, fixnum_in, in_range}
+use Rattle.c_meaning.specs.Operations.{ACell, operate, print, fixnum_in, in_range, is_true, truth_word, truth_number}
 use Rattle.c_meaning.specs.Execution.{atom, arguments}
-use Rattle.c_meaning.specs.Checked.{AType, AnError, AText, wants_of, gives_of, argument_fits, arguments_fit, atom_fits}
+use Rattle.c_meaning.specs.Checked.{AType, AnError, AText, wants_of, gives_of, argument_fits, arguments_fit, atom_fits, is_byte}
 use Rattle.c_machine.specs.declared.program.Action.{Action}
-use Rattle.c_machine.specs.Words.{long_of, fixnum_of, word_text, byte_of, status_of}
+use Rattle.c_machine.specs.Words.{long_of, fixnum_of, word_text, byte_of, status_of, truth_of, boxed_truth_of, less_of}
 use Rattle.c_machine.specs.Steps.{look, NeedsAction, Gave, Gives, Quits, performed, sum_of, unboxed_of}
 use Rattle.c_machine.specs.Decoded.{operand_of, action_of, variable_names}
-use Rattle.c_machine.proofs.Numbers.{WordFits, long_back, fixnum_back, fixnum_tag, word_text_is, status_is, status_byte, when_true}
+use Rattle.c_machine.proofs.Numbers.{WordFits, long_back, fixnum_back, fixnum_tag, word_text_is, status_is, status_byte, fixnum_no_constant, when_true, when_false}
 use Rattle.c_machine.proofs.Typing.{Slot, Holds, atom_reading}
 
 -- an action gives what an answer has, or ends the run as the answer does
@@ -119,6 +119,35 @@ boxed_same (ANumber z) s v h =
     let back : long_of v ≡ z = ap long_of h.is ∙ long_back z h.fits in
     (subst IsFixnum (sym back) h.fits, (record { fits = h.fits; is = ap fixnum_word back }, print_nothing s))
 
+boxed_truth_same : (c : Cell) (s : State) (v : ℕ) → Slot Int c v → Matches Obj s (Gives (boxed_truth_of v) []) (operate BoxBool (ACell c ∷ []) s)
+boxed_truth_same (AWord w) s v h = absurd h.fits
+boxed_truth_same (ANumber (negsuc n)) s v h = absurd (let no = h.fits in cc)
+boxed_truth_same (ANumber (pos n)) s v h = subst (λ (u : ℕ). Matches Obj s (Gives (boxed_truth_of u) []) (operate BoxBool (ACell (ANumber (pos n)) ∷ []) s)) (sym h.is) (each (nat_eq n 0), print_nothing s)
+  where
+    each : (b : Bool) → Slot Obj (AWord (truth_word (if b then false else true))) (if b then 3 else 11)
+    each true = record { fits = tt; is = refl }
+    each false = record { fits = tt; is = refl }
+
+truth_same : (c : Cell) (s : State) (v : ℕ) → Slot Obj c v → Matches Int s (Gives (truth_of v) []) (operate Truth (ACell c ∷ []) s)
+truth_same (ANumber z) s v h = absurd h.fits
+truth_same (AWord w) s v h = (record { fits = number w; is = ap truth_of h.is ∙ each w h.fits }, print_nothing s)
+  where
+    number : (w : Word) → is_byte (truth_number (is_true w)) ≡ true
+    number (Fixnum z) = refl
+    number False = refl
+    number True = refl
+    number Nil = refl
+    number Unspec = refl
+    number Eof = refl
+
+    each : (w : Word) → WordFits w → truth_of (number_of w) ≡ long_word (truth_number (is_true w))
+    each (Fixnum z) f = when_false (nat_eq (fixnum_word z) 3) 0 1 (fixnum_no_constant z f)
+    each False f = refl
+    each True f = refl
+    each Nil f = refl
+    each Unspec f = refl
+    each Eof f = refl
+
 unboxed_same : (c : Cell) (s : State) (v : ℕ) → Slot Obj c v → Matches Long s (unboxed_of v) (operate UnboxLong (ACell c ∷ []) s)
 unboxed_same (ANumber z) s v h = absurd h.fits
 unboxed_same (AWord w) s v h = subst (λ (u : ℕ). Matches Long s (unboxed_of u) (fixnum_in w s)) (sym h.is) (each w h.fits)
@@ -153,6 +182,19 @@ added_same (ANumber y) (ANumber z) s v w h i =
       subst (λ (n : ℤ). Matches Long s (sum_of n) (in_range (y +ℤ z) (codes "+") s)) (sym both) (sum_same (y +ℤ z) s (is_fixnum (y +ℤ z)) refl),
     )
 
+less_same : (c d : Cell) (s : State) (v w : ℕ) → Slot Long c v → Slot Long d w → Matches Int s (Gives (less_of (long_of v) (long_of w)) []) (operate (Prim_op Less) (ACell c ∷ ACell d ∷ []) s)
+less_same (AWord x) d s v w h i = absurd h.fits
+less_same (ANumber y) (AWord x) s v w h i = absurd i.fits
+less_same (ANumber y) (ANumber z) s v w h i =
+    let left : long_of v ≡ y = ap long_of h.is ∙ long_back y h.fits in
+    let right : long_of w ≡ z = ap long_of i.is ∙ long_back z i.fits in
+    let both : less_of (long_of v) (long_of w) ≡ less_of y z = ap (λ (x : ℤ). less_of x (long_of w)) left ∙ ap (λ (x : ℤ). less_of y x) right in
+    (subst (λ (u : ℕ). Slot Int (ANumber (truth_number (int_lt y z))) u) (sym both) (each (int_lt y z)), print_nothing s)
+  where
+    each : (b : Bool) → Slot Int (ANumber (truth_number b)) (if b then 1 else 0)
+    each true = record { fits = refl; is = refl }
+    each false = record { fits = refl; is = refl }
+
 shown_same : (c : Cell) (s : State) (v : ℕ) → Slot Obj c v → Matches Obj s (Gives 27 (word_text v)) (operate (Prim_op Display) (ACell c ∷ []) s)
 shown_same (ANumber z) s v h = absurd h.fits
 shown_same (AWord w) s v h = (record { fits = tt; is = refl }, ap (λ (t : List ℕ). print t s) (sym (ap word_text h.is ∙ word_text_is w h.fits)))
@@ -167,10 +209,18 @@ module _ (vars : List CVar) (f : Frame) (below env : List ℕ) (s : State) (hs :
       let r = atom_reading vars f below env Long a.first a.fits hs in
       let d = boxed_same (atom (variable_names vars) f a.first) s (look (length below) (below ++ env) (operand_of (variable_names vars) a.first)) r.slot in
       subst (Done BoxLong) (sym a.is) (record { needs = (r.reads, d.0); same = d.1 })
+  operated BoxBool args h =
+      let a = one_arg vars Int args h in
+      let r = atom_reading vars f below env Int a.first a.fits hs in
+      subst (Done BoxBool) (sym a.is) (record { needs = r.reads; same = boxed_truth_same (atom (variable_names vars) f a.first) s (look (length below) (below ++ env) (operand_of (variable_names vars) a.first)) r.slot })
   operated UnboxLong args h =
       let a = one_arg vars Obj args h in
       let r = atom_reading vars f below env Obj a.first a.fits hs in
       subst (Done UnboxLong) (sym a.is) (record { needs = r.reads; same = unboxed_same (atom (variable_names vars) f a.first) s (look (length below) (below ++ env) (operand_of (variable_names vars) a.first)) r.slot })
+  operated Truth args h =
+      let a = one_arg vars Obj args h in
+      let r = atom_reading vars f below env Obj a.first a.fits hs in
+      subst (Done Truth) (sym a.is) (record { needs = r.reads; same = truth_same (atom (variable_names vars) f a.first) s (look (length below) (below ++ env) (operand_of (variable_names vars) a.first)) r.slot })
   operated Raise args h =
       let a = raise_args vars args h in
       let code : byte_of (pos a.code) ≡ a.code = when_true (nat_lt a.code 256) a.code 0 (lt-ltb a.code 256 a.small) in
@@ -189,6 +239,14 @@ module _ (vars : List CVar) (f : Frame) (below env : List ℕ) (s : State) (hs :
       let names = variable_names vars in
       let d = added_same (atom names f a.first) (atom names f a.second) s (look base slots (operand_of names a.first)) (look base slots (operand_of names a.second)) q.slot r.slot in
       subst (Done (Prim_op Add)) (sym a.is) (record { needs = ((q.reads, d.0), (r.reads, d.1)); same = d.2 })
+  operated (Prim_op Less) args h =
+      let a = two_args vars Long Long args h in
+      let q = atom_reading vars f below env Long a.first a.fits hs in
+      let r = atom_reading vars f below env Long a.second a.fits_too hs in
+      let base = length below in
+      let slots = below ++ env in
+      let names = variable_names vars in
+      subst (Done (Prim_op Less)) (sym a.is) (record { needs = (q.reads, r.reads); same = less_same (atom names f a.first) (atom names f a.second) s (look base slots (operand_of names a.first)) (look base slots (operand_of names a.second)) q.slot r.slot })
   operated (Prim_op Display) args h =
       let a = one_arg vars Obj args h in
       let r = atom_reading vars f below env Obj a.first a.fits hs in

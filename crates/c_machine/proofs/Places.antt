@@ -1,70 +1,56 @@
--- Where instructions stand, and the work that is left there.
-use Rattle.std.proofs.Common.{◌≡◌, ℕ, zero, suc, ◌+◌, ◌-◌, ◌*◌, ◌<◌, ◌≤◌, List, [], ◌∷◌, length, Option, Some, None, slice_get, drop, refl, ap, ◌∙◌, arith}
+-- Where lines stand, and the work that is left there.
+use Rattle.std.proofs.Common.{◌≡◌, ℕ, zero, suc, ◌+◌, ◌-◌, ◌*◌, ◌<◌, ◌≤◌, List, [], ◌∷◌, length, Option, Some, None, slice_get, ap, ◌∙◌, arith}
 use Rattle.std.specs.Option.{option_map}
 use Rattle.std.proofs.lemmas.Option.{slice_get-map}
-use Rattle.c_tree.specs.declared.tree.CBody.{CBody}
-use Rattle.c_tree.specs.declared.tree.CBody.TheVariants.{Straight, Looped}
-use Rattle.c_tree.specs.declared.tree.CFun.{CFun}
-use Rattle.c_meaning.specs.Execution.{Names}
+use Rattle.c_tree.specs.declared.function.CFun.{CFun}
 use Rattle.c_machine.specs.declared.program.Instr.{Instr}
 use Rattle.c_machine.specs.declared.program.Instr.TheVariants as instr
+use Rattle.c_machine.specs.declared.program.Line.{Line}
 use Rattle.c_machine.specs.declared.program.Function.{Function}
-use Rattle.c_machine.specs.Steps.{Config, instr_in, instr_at}
-use Rattle.c_machine.specs.Decoded.{code_of, function_of, function_names}
-use Rattle.c_machine.proofs.Means.{decoded, names_in, steps_from, left_in, left_at, steps_at, steps_in, total, work}
-
--- Lists -------------------------------------------------------------------------------------
-
-pub record Front {A : Type 0} (xs : List A) (k : ℕ) (y : A) (ys : List A) : Type 0 where
-  pub first : slice_get xs k ≡ Some y
-  pub rest : drop (k + 1) xs ≡ ys
-  pub within : k < length xs
-
-pub front : {A : Type 0} (xs : List A) (k : ℕ) (y : A) (ys : List A) → drop k xs ≡ y ∷ ys → Front xs k y ys
-front [] zero y ys e = absurd (cc)
-front [] (suc k) y ys e = absurd (cc)
-front (x ∷ xs) zero y ys e =
-    let head : x ≡ y = cc in
-    let tail : xs ≡ ys = cc in
-    record { first = ap Some head; rest = tail; within = omega arith }
-front (x ∷ xs) (suc k) y ys e =
-    let r = front xs k y ys e in
-    let next : suc k + 1 ≡ suc (k + 1) = omega arith in
-    record { first = r.first; rest = ap (λ n. drop n (x ∷ xs)) next ∙ r.rest; within = let lt = r.within in omega arith }
+use Rattle.c_machine.specs.Steps.{Config, line_in, line_at}
+use Rattle.c_machine.specs.Decoded.{line, code_of, function_of, function_names}
+use Rattle.c_machine.proofs.Means.{decoded, statements_in, names_in, steps_by, steps_from, left_in, left_at, steps_at, steps_in, total, work}
 
 -- Functions ---------------------------------------------------------------------------------
 
 pub function_there : (fs : List CFun) (k : ℕ) (f : CFun) → slice_get fs k ≡ Some f → slice_get (decoded fs) k ≡ Some (function_of (function_names fs) f)
 function_there fs k f e = slice_get-map (function_of (function_names fs)) fs k ∙ ap (option_map (function_of (function_names fs))) e
 
-abbrev pub code_in : List CFun → CFun → List Instr
-code_in fs f = code_of (names_in f) (function_names fs) f.body
+abbrev pub lines_in : List CFun → CFun → List Line
+lines_in fs f = code_of (names_in f) (function_names fs) (statements_in f)
 
-pub instr_there : (fs : List CFun) (k pc : ℕ) (f : CFun) → slice_get fs k ≡ Some f → instr_at (decoded fs) k pc ≡ slice_get (code_in fs f) pc
-instr_there fs k pc f e = ap (λ m. instr_in m pc) (function_there fs k f e)
+pub line_there : (fs : List CFun) (k pc : ℕ) (f : CFun) → slice_get fs k ≡ Some f → line_at (decoded fs) k pc ≡ slice_get (lines_in fs f) pc
+line_there fs k pc f e = ap (λ m. line_in m pc) (function_there fs k f e)
 
-pub left_there : (fs : List CFun) (k pc : ℕ) (f : CFun) → slice_get fs k ≡ Some f → left_at (decoded fs) k pc ≡ length (code_in fs f) - pc
+pub left_there : (fs : List CFun) (k pc : ℕ) (f : CFun) → slice_get fs k ≡ Some f → left_at (decoded fs) k pc ≡ length (lines_in fs f) - pc
 left_there fs k pc f e = ap (λ m. left_in m pc) (function_there fs k f e)
 
-give_first : (names funs : Names) (b : CBody) → slice_get (code_of names funs b) 0 ≡ Some instr.Give
-give_first names funs (Straight ss) = refl
-give_first names funs (Looped l ss) = refl
+-- less is left farther on
+pub left_less : (funs : List Function) (k near far : ℕ) → near ≤ far → left_at funs k far ≤ left_at funs k near
+left_less funs k near far le = each (slice_get funs k)
+  where
+    each : (f : Option Function) → left_in f far ≤ left_in f near
+    each None = omega arith
+    each (Some f) = omega arith
 
-pub give_there : (fs : List CFun) (k : ℕ) (f : CFun) → slice_get fs k ≡ Some f → instr_at (decoded fs) k 0 ≡ Some instr.Give
-give_there fs k f e = instr_there fs k 0 f e ∙ give_first (names_in f) (function_names fs) f.body
+pub give_there : (fs : List CFun) (k : ℕ) (f : CFun) → slice_get fs k ≡ Some f → line_at (decoded fs) k 0 ≡ Some (line instr.Give 1)
+give_there fs k f e = line_there fs k 0 f e
 
 -- Work --------------------------------------------------------------------------------------
 
-pub steps_le : (i : Option Instr) (n : ℕ) → steps_from i n ≤ 2 * n + 1
-steps_le None n = omega arith
-steps_le (Some (instr.Does to a)) n = omega arith
-steps_le (Some (instr.Call to g args)) n = omega arith
-steps_le (Some instr.Turn) n = omega arith
-steps_le (Some instr.Give) n = omega arith
-steps_le (Some instr.Stop) n = omega arith
+steps_by_le : (i : Instr) (n : ℕ) → steps_by i n ≤ 2 * n + 1
+steps_by_le (instr.Does to a) n = omega arith
+steps_by_le (instr.Call to g args) n = omega arith
+steps_by_le instr.Turn n = omega arith
+steps_by_le instr.Give n = omega arith
+steps_by_le instr.Stop n = omega arith
 
-pub steps_here : (funs : List Function) (k pc : ℕ) (i : Option Instr) → instr_at funs k pc ≡ i → steps_at funs k pc ≡ steps_from i (left_at funs k pc)
-steps_here funs k pc i e = ap (λ j. steps_from j (left_at funs k pc)) e
+pub steps_le : (l : Option Line) (n : ℕ) → steps_from l n ≤ 2 * n + 1
+steps_le None n = omega arith
+steps_le (Some l) n = steps_by_le l.instr n
+
+pub steps_here : (funs : List Function) (k pc : ℕ) (l : Option Line) → line_at funs k pc ≡ l → steps_at funs k pc ≡ steps_from l (left_at funs k pc)
+steps_here funs k pc l e = ap (λ j. steps_from j (left_at funs k pc)) e
 
 pub within_total : (funs : List Function) (k : ℕ) (f : Function) → slice_get funs k ≡ Some f → length f.code ≤ total funs
 unfolding total

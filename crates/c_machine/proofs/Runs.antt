@@ -1,5 +1,5 @@
 -- The loop of a run: how it begins, goes on and ends.
-use Rattle.std.proofs.Common.{◌≡◌, ℕ, ◌<◌, List, [], ◌∷◌, ◌++◌, length, Option, Some, None, slice_get, replicate, drop, refl, sym, ap, ◌∙◌, subst, arith, inl, append_assoc}
+use Rattle.std.proofs.Common.{◌≡◌, ℕ, ◌<◌, List, [], ◌∷◌, ◌++◌, length, Option, Some, None, slice_get, replicate, refl, sym, ap, ◌∙◌, subst, arith, inl, append_assoc}
 use Rattle.std.specs.Prelude.{codes, Ok, Err, IsSome}
 use Rattle.std.specs.Prelude.{true}
 use Rattle.std.proofs.lemmas.List.{append-nil}
@@ -7,27 +7,28 @@ use Rattle.std.proofs.lemmas.Option.{slice_get_within}
 use Rattle.base_io.specs.declared.end.End.{End}
 use Rattle.base_io.specs.declared.end.RunErr.{RunErr}
 use Rattle.base_io.specs.Observation.{Observation}
-use Rattle.c_tree.specs.declared.tree.CStmt.{CStmt}
 use Rattle.c_tree.specs.declared.tree.CVar.{CVar}
-use Rattle.c_tree.specs.declared.tree.CBody.{CBody}
-use Rattle.c_tree.specs.declared.tree.CBody.TheVariants.{Straight}
-use Rattle.c_tree.specs.declared.tree.CFun.{CFun}
-use Rattle.c_tree.specs.declared.tree.CItem.{CItem}
-use Rattle.c_tree.specs.declared.tree.CProgram.{CProgram}
-use Rattle.c_tree.specs.Code.{Fun, done, fun_of, onto, items_of, code_of as c_code}
+use Rattle.c_tree.specs.declared.function.CFun.{CFun}
+use Rattle.c_tree.specs.declared.function.CItem.{CItem}
+use Rattle.c_tree.specs.declared.function.CProgram.{CProgram}
+use Rattle.c_tree.specs.Code.{Code, Fun}
+use Rattle.c_tree.specs.Functions.{fun_of, items_of}
 use Rattle.c_meaning.specs.Execution.{entry, exec, run, fun_named}
 use Rattle.c_meaning.specs.Program.{cm, run_main, start, shown}
 use Rattle.c_meaning.specs.Checked.{code_fits}
 use Rattle.c_machine.specs.Added.{Added, AddedPart}
 use Rattle.c_machine.specs.Runs.{Ran}
 use Rattle.c_machine.specs.declared.program.Instr.{Instr}
+use Rattle.c_machine.specs.declared.program.Line.{Line}
 use Rattle.c_machine.specs.declared.program.Function.{Function}
 use Rattle.c_machine.specs.declared.stepping.Flow.{Flow as How}
 use Rattle.c_machine.specs.declared.stepping.Flow.TheVariants.{Going, Over, WriteFault, Memory}
-use Rattle.c_machine.specs.Steps.{Config, Move, Goes, Ends, Needs, act, instr_at, advanced, Does}
-use Rattle.c_machine.specs.Decoded.{definitions, function_names, function_of, code_of, instrs_of, variables_of, IsDecoded}
-use Rattle.c_machine.proofs.Means.{meant, decoded, names_in, last_of, statements_of, wrap, flow_of, Callers, Means, Kept, Sound, work}
+use Rattle.c_machine.specs.Steps.{Config, Move, Goes, Ends, Needs, act, line_at, advanced, Does}
+use Rattle.c_machine.specs.Decoded.{line, definitions, function_names, function_of, variables_of, IsDecoded}
+use Rattle.c_machine.proofs.Means.{meant, decoded, Shape, statements_of, statements_in, names_in, wrap, flows, flow_of, Callers, Means, Kept, Sound, work}
 use Rattle.c_machine.proofs.Places.{function_there}
+use Rattle.c_machine.proofs.Flows.{after_next}
+use Rattle.c_machine.proofs.Leading.{main_leads}
 use Rattle.c_machine.proofs.Filled.{Filled, entry_holds}
 use Rattle.c_machine.proofs.Sound.{place_in, means_sound}
 use Rattle.c_machine.proofs.Grows.{means_begins}
@@ -39,9 +40,6 @@ abbrev pub MeansIn : List CItem → Config → List ℕ → Observation → Type
 MeansIn items c o w = Means (definitions items) (place_in (definitions items)) c o w
 
 -- Beginning ---------------------------------------------------------------------------------
-
-statements_behind : (names funs : List (List ℕ)) (body : CBody) (ss : List CStmt) → body ≡ Straight ss → drop 1 (code_of names funs body) ≡ instrs_of names funs ss ++ last_of body ∷ []
-statements_behind names funs body ss e = subst (λ (b : CBody). drop 1 (code_of names funs b) ≡ instrs_of names funs ss ++ last_of b ∷ []) (sym e) refl
 
 nothing_filled : (params : List CVar) → params ≡ [] → Filled params [] []
 nothing_filled params e = subst (λ (ps : List CVar). Filled ps [] []) (sym e) tt
@@ -59,10 +57,15 @@ begins items functions main f input args turns d there =
     let same : f ≡ fn = cc in
     let locals : f.locals ≡ length m.fun.locals = ap (λ (g : Function). g.locals) same in
     let ps = functions_meant items in
-    let whole : cm (items_of items) input args turns ≡ shown (exec p (run p turns) (names_in m.fun) (c_code m.fun.body) (entry (fun_of m.fun) []) (start input turns)) =
+    let code = statements_in m.fun in
+    let block : List Code = code ∷ [] in
+    let fr = entry (fun_of m.fun) [] in
+    let s = start input turns in
+    let whole : cm (items_of items) input args turns ≡ shown (exec p (run p turns) (names_in m.fun) code fr s) =
     ap (λ (q : List Fun). run_main q (fun_named q (codes "main")) input turns) ps ∙ ap (λ (o : Option Fun). run_main p o input turns) m.found in
-    let flow : exec p (run p turns) (names_in m.fun) (c_code m.fun.body) (entry (fun_of m.fun) []) (start input turns) ≡ flow_of p turns m.fun m.block (entry (fun_of m.fun) []) (start input turns) =
-    subst (λ (b : CBody). exec p (run p turns) (names_in m.fun) (c_code b) (entry (fun_of m.fun) []) (start input turns) ≡ wrap p turns (names_in m.fun) b (exec p (run p turns) (names_in m.fun) (onto m.block done) (entry (fun_of m.fun) []) (start input turns))) (sym m.body) refl in
+    let flow : exec p (run p turns) (names_in m.fun) code fr s ≡ flow_of p turns m.fun block fr s =
+    sym (after_next (exec p (run p turns) (names_in m.fun) code fr s)) ∙ ap (λ (x : Shape). wrap p turns (names_in m.fun) x (flows p turns (names_in m.fun) block fr s)) (sym m.straight) in
+    let fits : code_fits t.sigs (variables_of m.fun) m.fun.result code ≡ true = ap (λ (x : Shape). code_fits t.sigs (variables_of m.fun) m.fun.result (statements_of x)) (sym m.straight) ∙ t.fits in
     inl (record {
       fn = main;
       pc = 1;
@@ -70,11 +73,11 @@ begins items functions main f input args turns d there =
       env = replicate (length m.fun.locals) 0;
       frames = [];
       value = 0;
-      state = start input turns;
+      state = s;
       bound = turns;
       fun = m.fun;
-      left = m.block;
-      frame = entry (fun_of m.fun) [];
+      left = block;
+      frame = fr;
       outer = shown;
       is = ap (λ (n : ℕ). record { fun = main; pc = 1; base = 0; turns = turns; slots = replicate n 0; frames = []; value = 0 }) locals;
       out = refl;
@@ -82,9 +85,8 @@ begins items functions main f input args turns d there =
         there = at;
         sigs = t.sigs;
         callees = t.callees;
-        fits = subst (λ (b : CBody). code_fits t.sigs (variables_of m.fun) m.fun.result (onto (statements_of b) done) ≡ true) m.body t.fits;
-        more = [];
-        leads = statements_behind (names_in m.fun) (function_names fs) m.fun.body m.block m.body;
+        fits = (fits, tt);
+        leads = main_leads (names_in m.fun) (function_names fs) t.sigs (variables_of m.fun) m.fun.result code fits;
         holds = entry_holds m.fun [] [] (nothing_filled m.fun.params m.params);
       };
       enough = omega arith;
@@ -100,31 +102,31 @@ main_within items functions main d =
 
 -- Steps -------------------------------------------------------------------------------------
 
-sound_in : (items : List CItem) (functions : List Function) (main : ℕ) (c : Config) (o : List ℕ) (w : Observation) → IsDecoded items functions main → MeansIn items c o w → Sound (definitions items) (place_in (definitions items)) c o w (instr_at functions c.fun c.pc)
+sound_in : (items : List CItem) (functions : List Function) (main : ℕ) (c : Config) (o : List ℕ) (w : Observation) → IsDecoded items functions main → MeansIn items c o w → Sound (definitions items) (place_in (definitions items)) c o w (line_at functions c.fun c.pc)
 sound_in items functions main c o w d m =
     let fs = definitions items in
-    subst (λ (l : List Function). Sound fs (place_in fs) c o w (instr_at l c.fun c.pc)) (sym d.functions_are) (means_sound fs (all_typed items d.checked) c o w m)
+    subst (λ (l : List Function). Sound fs (place_in fs) c o w (line_at l c.fun c.pc)) (sym d.functions_are) (means_sound fs (all_typed items d.checked) c o w m)
 
-needs_some : (fs : List CFun) (c : Config) (o : List ℕ) (w : Observation) (i : Option Instr) → Sound fs (place_in fs) c o w i → IsSome i
+needs_some : (fs : List CFun) (c : Config) (o : List ℕ) (w : Observation) (l : Option Line) → Sound fs (place_in fs) c o w l → IsSome l
 needs_some fs c o w None h = absurd h.0
-needs_some fs c o w (Some i) h = refl
+needs_some fs c o w (Some l) h = refl
 
--- there is an instruction
-pub instr_is_there : (items : List CItem) (functions : List Function) (main : ℕ) (c : Config) (o : List ℕ) (w : Observation) → IsDecoded items functions main → MeansIn items c o w → IsSome (instr_at functions c.fun c.pc)
-instr_is_there items functions main c o w d m = needs_some (definitions items) c o w (instr_at functions c.fun c.pc) (sound_in items functions main c o w d m)
+-- there is a line
+pub line_is_there : (items : List CItem) (functions : List Function) (main : ℕ) (c : Config) (o : List ℕ) (w : Observation) → IsDecoded items functions main → MeansIn items c o w → IsSome (line_at functions c.fun c.pc)
+line_is_there items functions main c o w d m = needs_some (definitions items) c o w (line_at functions c.fun c.pc) (sound_in items functions main c o w d m)
 
--- what is known of a step at this instruction
-pub record Known (items : List CItem) (functions : List Function) (c : Config) (o : List ℕ) (w : Observation) (i : Instr) : Type 0 where
-  pub needs : Needs i functions (advanced c)
-  pub kept : Kept (definitions items) (place_in (definitions items)) c o w (act i functions (advanced c))
+-- what is known of a step at this instruction, after which there is a place to go on
+pub record Known (items : List CItem) (functions : List Function) (c : Config) (o : List ℕ) (w : Observation) (i : Instr) (next : ℕ) : Type 0 where
+  pub needs : Needs i functions (advanced next c)
+  pub kept : Kept (definitions items) (place_in (definitions items)) c o w (act i functions (advanced next c))
 
-pub known : (items : List CItem) (functions : List Function) (main : ℕ) (c : Config) (o : List ℕ) (w : Observation) (i : Instr) → IsDecoded items functions main → MeansIn items c o w → instr_at functions c.fun c.pc ≡ Some i → Known items functions c o w i
-known items functions main c o w i d m e =
+pub known : (items : List CItem) (functions : List Function) (main : ℕ) (c : Config) (o : List ℕ) (w : Observation) (i : Instr) (next : ℕ) → IsDecoded items functions main → MeansIn items c o w → line_at functions c.fun c.pc ≡ Some (line i next) → Known items functions c o w i next
+known items functions main c o w i next d m e =
     let fs = definitions items in
-    let s = subst (λ (j : Option Instr). Sound fs (place_in fs) c o w j) e (sound_in items functions main c o w d m) in
+    let s = subst (λ (l : Option Line). Sound fs (place_in fs) c o w l) e (sound_in items functions main c o w d m) in
     record {
-      needs = subst (λ (l : List Function). Needs i l (advanced c)) (sym d.functions_are) s.0;
-      kept = subst (λ (l : List Function). Kept fs (place_in fs) c o w (act i l (advanced c))) (sym d.functions_are) s.1;
+      needs = subst (λ (l : List Function). Needs i l (advanced next c)) (sym d.functions_are) s.0;
+      kept = subst (λ (l : List Function). Kept fs (place_in fs) c o w (act i l (advanced next c))) (sym d.functions_are) s.1;
     }
 
 -- the invariant of the loop
@@ -198,28 +200,28 @@ pub seen_through : (p q : CProgram) (fs gs : List Function) (main : ℕ) → p �
 seen_through p q fs gs main ep ef d =
     subst (λ (l : List Function). IsDecoded q.items l main) (sym ef) (subst (λ (r : CProgram). IsDecoded r.items fs main) ep d)
 
-module _ (items : List CItem) (functions : List Function) (main : ℕ) (d : IsDecoded items functions main) (c c1 : Config) (w : Observation) (a b : Option (List ℕ)) (g : Goes_on items c w a b) (i : Instr) (at : instr_at functions c.fun c.pc ≡ Some i) (is : c1 ≡ advanced c) where
-  known_here : Known items functions c g.output w i
-  known_here = known items functions main c g.output w i d g.means at
+module _ (items : List CItem) (functions : List Function) (main : ℕ) (d : IsDecoded items functions main) (c c1 : Config) (w : Observation) (a b : Option (List ℕ)) (g : Goes_on items c w a b) (i : Instr) (next : ℕ) (at : line_at functions c.fun c.pc ≡ Some (line i next)) (is : c1 ≡ advanced next c) where
+  known_here : Known items functions c g.output w i next
+  known_here = known items functions main c g.output w i next d g.means at
 
-  does_here : (how : How) (n : Config) (end : End) (e : Option (List ℕ)) → Does (act i functions c1) how n end b e → Does (act i functions (advanced c)) how n end b e
+  does_here : (how : How) (n : Config) (end : End) (e : Option (List ℕ)) → Does (act i functions c1) how n end b e → Does (act i functions (advanced next c)) how n end b e
   does_here how n end e h = subst (λ (x : Config). Does (act i functions x) how n end b e) is h
 
   pub step_needs : Needs i functions c1
   step_needs = subst (λ (x : Config). Needs i functions x) (sym is) known_here.needs
 
   pub step_goes : (n : Config) (end : End) (e : Option (List ℕ)) → Does (act i functions c1) Going n end b e → Goes_on items n w a e
-  step_goes n end e h = (going items c n g.output w (act i functions (advanced c)) end a b e known_here.kept (does_here Going n end e h) g.told).goes
+  step_goes n end e h = (going items c n g.output w (act i functions (advanced next c)) end a b e known_here.kept (does_here Going n end e h) g.told).goes
 
   pub step_falls : (n : Config) (end : End) (e : Option (List ℕ)) → Does (act i functions c1) Going n end b e → work functions n < work functions c
   step_falls n end e h =
-      subst (λ (l : List Function). work l n < work l c) (sym d.functions_are) (going items c n g.output w (act i functions (advanced c)) end a b e known_here.kept (does_here Going n end e h) g.told).falls
+      subst (λ (l : List Function). work l n < work l c) (sym d.functions_are) (going items c n g.output w (act i functions (advanced next c)) end a b e known_here.kept (does_here Going n end e h) g.told).falls
 
   pub step_ends : (n : Config) (end : End) (e : Option (List ℕ)) → Does (act i functions c1) Over n end b e → Ended_as w a e end
-  step_ends n end e h = over items c n g.output w (act i functions (advanced c)) end a b e known_here.kept (does_here Over n end e h) g.told
+  step_ends n end e h = over items c n g.output w (act i functions (advanced next c)) end a b e known_here.kept (does_here Over n end e h) g.told
 
   pub step_cannot_write : (n : Config) (end : End) (e : Option (List ℕ)) → Does (act i functions c1) WriteFault n end b e → AddedPart a e w.output
-  step_cannot_write n end e h = write_failed items c n g.output w (act i functions (advanced c)) end a b e known_here.kept (does_here WriteFault n end e h) g.told
+  step_cannot_write n end e h = write_failed items c n g.output w (act i functions (advanced next c)) end a b e known_here.kept (does_here WriteFault n end e h) g.told
 
   pub step_lacks_memory : (n : Config) (end : End) (e : Option (List ℕ)) → Does (act i functions c1) Memory n end b e → AddedPart a e w.output
-  step_lacks_memory n end e h = memory_failed items c n g.output w (act i functions (advanced c)) end a b e known_here.kept (does_here Memory n end e h) g.told
+  step_lacks_memory n end e h = memory_failed items c n g.output w (act i functions (advanced next c)) end a b e known_here.kept (does_here Memory n end e h) g.told

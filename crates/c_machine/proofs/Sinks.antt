@@ -1,5 +1,5 @@
 -- Bytes that were added piece by piece.
-use Rattle.std.proofs.Common.{◌≡◌, ℕ, ◌+◌, ◌-◌, ◌≤◌, List, [], ◌++◌, length, take, drop, Option, Some, None, sym, ap, ◌∙◌, arith, append_assoc, length-drop}
+use Rattle.std.proofs.Common.{◌≡◌, ℕ, ◌+◌, ◌-◌, List, [], ◌++◌, length, take, drop, Option, Some, None, sym, ap, ◌∙◌, arith, append_assoc, length-drop}
 use Rattle.std.specs.Io.KnownBytes.{Appends, Keeps}
 use Rattle.std.proofs.Math.Seq.{take-add}
 use Rattle.std.proofs.lemmas.List.{take_all, take-append-drop, append-nil}
@@ -38,6 +38,3 @@ added_part a b c at bs h k = record {
   is = sym (take-append-drop at bs);
   added = λ w e. added_twice a b c (take at bs) [] h (added_kept b c k) w e ∙ ap (λ (l : List ℕ). Some (w ++ l)) (append-nil (take at bs));
 }
-
-pub added_all : (a b : Option (List ℕ)) (at : ℕ) (bs : List ℕ) → Added a b (take at bs) → length bs ≤ at → Added a b bs
-added_all a b at bs h le w e = h w e ∙ ap (λ (x : List ℕ). Some (w ++ x)) (take_all at bs le)

@@ -1,10 +1,10 @@
--- What a program is decoded to: names as numbers, one instruction a statement.
-use Rattle.std.specs.Prelude.{◌≡◌, ℕ, List, [], ◌∷◌, ◌++◌, map, codes, length, Option, Some, None, slice_get, Bool, true}
+-- What a program is decoded to: names as numbers, one line a statement.
+use Rattle.std.specs.Prelude.{◌≡◌, ℕ, suc, ◌+◌, List, [], ◌∷◌, ◌++◌, map, codes, length, Option, Some, None, slice_get, Bool, true}
 use Rattle.std.specs.List.{list_all}
 use Rattle.scheme_data.specs.Fixnum.{long_word}
-use Rattle.prim_table.specs.declared.primitives.Primitive.TheVariants.{Add, Display, Newline}
+use Rattle.prim_table.specs.declared.primitives.Primitive.TheVariants.{Add, Less, Display, Newline}
 use Rattle.c_tree.specs.declared.op.Op.{Op}
-use Rattle.c_tree.specs.declared.op.Op.TheVariants.{BoxLong, UnboxLong, Raise, Args, Status, Primitive as Prim_op}
+use Rattle.c_tree.specs.declared.op.Op.TheVariants.{BoxLong, BoxBool, UnboxLong, Truth, Raise, Args, Status, Primitive as Prim_op}
 use Rattle.c_tree.specs.declared.tree.CAtom.{CAtom}
 use Rattle.c_tree.specs.declared.tree.CAtom.TheVariants as atom
 use Rattle.c_tree.specs.declared.tree.CArg.{CArg}
@@ -13,15 +13,13 @@ use Rattle.c_tree.specs.declared.tree.Callee.{Callee}
 use Rattle.c_tree.specs.declared.tree.Callee.TheVariants as callee
 use Rattle.c_tree.specs.declared.tree.CExpr.{CExpr}
 use Rattle.c_tree.specs.declared.tree.CExpr.TheVariants as expr
-use Rattle.c_tree.specs.declared.tree.CStmt.{CStmt}
-use Rattle.c_tree.specs.declared.tree.CStmt.TheVariants as stmt
-use Rattle.c_tree.specs.declared.tree.CBody.{CBody}
-use Rattle.c_tree.specs.declared.tree.CBody.TheVariants.{Straight, Looped}
 use Rattle.c_tree.specs.declared.tree.CVar.{CVar}
-use Rattle.c_tree.specs.declared.tree.CFun.{CFun}
-use Rattle.c_tree.specs.declared.tree.CItem.{CItem}
-use Rattle.c_tree.specs.declared.tree.CItem.TheVariants.{Declared, Defined}
-use Rattle.c_tree.specs.Code.{items_of}
+use Rattle.c_tree.specs.declared.function.CFun.{CFun}
+use Rattle.c_tree.specs.declared.function.CItem.{CItem}
+use Rattle.c_tree.specs.declared.function.CItem.TheVariants.{Declared, Defined}
+use Rattle.c_tree.specs.Code.{Code, done, assign, call, return, test, loop}
+use Rattle.c_tree.specs.Layout.{size}
+use Rattle.c_tree.specs.Functions.{fun_of, items_of}
 use Rattle.c_meaning.specs.Execution.{Names, position_of}
 use Rattle.c_meaning.specs.Checked.{IsChecked, are_distinct}
 use Rattle.c_machine.specs.declared.program.Operand.{Operand}
@@ -32,6 +30,7 @@ use Rattle.c_machine.specs.declared.program.Action.{Action}
 use Rattle.c_machine.specs.declared.program.Action.TheVariants as action
 use Rattle.c_machine.specs.declared.program.Instr.{Instr}
 use Rattle.c_machine.specs.declared.program.Instr.TheVariants as instr
+use Rattle.c_machine.specs.declared.program.Line.{Line}
 use Rattle.c_machine.specs.declared.program.Function.{Function}
 use Rattle.c_machine.specs.Words.{byte_of}
 
@@ -77,11 +76,14 @@ text_in (Some (arg.Str text)) = text
 
 abbrev pub action_of : Names → Op → List CArg → Action
 action_of names BoxLong args = action.BoxLong (operand_at names args 0)
+action_of names BoxBool args = action.BoxBool (operand_at names args 0)
 action_of names UnboxLong args = action.UnboxLong (operand_at names args 0)
+action_of names Truth args = action.Truth (operand_at names args 0)
 action_of names Raise args = action.Raise (code_in (slice_get args 0)) (text_in (slice_get args 1))
 action_of names Args args = action.Args
 action_of names Status args = action.Status (operand_at names args 0)
 action_of names (Prim_op Add) args = action.Add (operand_at names args 0) (operand_at names args 1)
+action_of names (Prim_op Less) args = action.Less (operand_at names args 0) (operand_at names args 1)
 action_of names (Prim_op Display) args = action.Display (operand_at names args 0)
 action_of names (Prim_op Newline) args = action.Newline
 
@@ -93,18 +95,48 @@ abbrev pub expr_instr : Names → Names → Dest → CExpr → Instr
 expr_instr names funs to (expr.Atom a) = instr.Does to (action.Copy (operand_of names a))
 expr_instr names funs to (expr.Call c) = call_of names funs to c.callee c.args
 
-abbrev pub instr_of : Names → Names → CStmt → Instr
-instr_of names funs (stmt.Assign x e) = expr_instr names funs (dest.Local (position_of x names)) e
-instr_of names funs (stmt.Call c) = call_of names funs dest.Nowhere c.callee c.args
-instr_of names funs (stmt.Return e) = expr_instr names funs dest.Caller e
+-- Lines -------------------------------------------------------------------------------------
 
-abbrev pub instrs_of : Names → Names → List CStmt → List Instr
-instrs_of names funs ss = map (instr_of names funs) ss
+-- an instruction, and the place where the function goes on after it
+abbrev pub line : Instr → ℕ → Line
+line i next = record { instr = i; next = next }
 
--- a function first has the instruction that gives its value. A block ends with the turn that begins it again
-abbrev pub code_of : Names → Names → CBody → List Instr
-code_of names funs (Straight ss) = instr.Give ∷ (instrs_of names funs ss ++ instr.Stop ∷ [])
-code_of names funs (Looped l ss) = instr.Give ∷ instr.Turn ∷ (instrs_of names funs ss ++ instr.Turn ∷ [])
+-- where code begins that stands at a place: if it is empty, where the function goes on after it
+abbrev pub first_of : Code → ℕ → ℕ → ℕ
+first_of done at on = on
+first_of (assign x e rest) at on = at
+first_of (call c rest) at on = at
+first_of (return e rest) at on = at
+first_of (test e a b rest) at on = at
+first_of (loop l body rest) at on = at
+
+-- the lines of code that stands at a place, in front of others, where the function goes on at another after it: one a statement
+abbrev pub lines : Names → Names → Code → ℕ → ℕ → List Line → List Line
+lines names funs done at on others = others
+lines names funs (assign x e rest) at on others = line (expr_instr names funs (dest.Local (position_of x names)) e) (first_of rest (suc at) on) ∷ lines names funs rest (suc at) on others
+lines names funs (call c rest) at on others = line (call_of names funs dest.Nowhere c.callee c.args) (first_of rest (suc at) on) ∷ lines names funs rest (suc at) on others
+lines names funs (return e rest) at on others = line (expr_instr names funs dest.Caller e) (first_of rest (suc at) on) ∷ lines names funs rest (suc at) on others
+lines names funs (test e a b rest) at on others =
+    let m = suc at + size a in
+    let k = m + size b in
+    let after = first_of rest k on in
+    line (expr_instr names funs (dest.Test (first_of b m after)) e) (first_of a (suc at) after)
+    ∷ lines names funs a (suc at) after (lines names funs b m after (lines names funs rest k on others))
+lines names funs (loop l body rest) at on others =
+    let k = suc at + size body in
+    let after = first_of rest k on in
+    line instr.Turn (first_of body (suc at) after) ∷ lines names funs body (suc at) after (lines names funs rest k on others)
+
+-- what stands at the end: the turn that begins the block of a loop again
+abbrev pub last_of : Code → Instr
+last_of (loop l body rest) = instr.Turn
+last_of _ = instr.Stop
+
+-- a function first has the instruction that gives its value
+abbrev pub code_of : Names → Names → Code → List Line
+code_of names funs c = line instr.Give 1 ∷ lines names funs c 1 (suc (size c)) (line (last_of c) (suc (size c)) ∷ [])
+
+-- Functions ---------------------------------------------------------------------------------
 
 abbrev pub variables_of : CFun → List CVar
 variables_of f = f.params ++ f.locals
@@ -113,7 +145,7 @@ abbrev pub variable_names : List CVar → Names
 variable_names vars = map (λ v. v.name) vars
 
 abbrev pub function_of : Names → CFun → Function
-function_of funs f = record { locals = length f.locals; code = code_of (variable_names (variables_of f)) funs f.body }
+function_of funs f = record { locals = length f.locals; code = code_of (variable_names (variables_of f)) funs (fun_of f).code }
 
 abbrev pub definition_in : CItem → List CFun
 definition_in (Declared ty name params) = []

@@ -1,5 +1,7 @@
 pub mod Added
 pub mod Decoded
+pub mod Decoding
+pub mod Rows
 pub mod Runs
 pub mod Steps
 pub mod Words

@@ -12,6 +12,7 @@ use Rattle.c_machine.specs.declared.program.Action.{Action}
 use Rattle.c_machine.specs.declared.program.Action.TheVariants as action
 use Rattle.c_machine.specs.declared.program.Instr.{Instr}
 use Rattle.c_machine.specs.declared.program.Instr.TheVariants as instr
+use Rattle.c_machine.specs.declared.program.Line.{Line}
 use Rattle.c_machine.specs.declared.program.Function.{Function}
 use Rattle.c_machine.specs.declared.stepping.Flow.{Flow}
 use Rattle.c_machine.specs.declared.stepping.Flow.TheVariants.{Going, Over, WriteFault, Memory}
@@ -19,7 +20,7 @@ use Rattle.c_machine.specs.declared.stepping.Frame.{Frame}
 use Rattle.c_machine.specs.declared.stepping.Regs.{Regs}
 use Rattle.c_machine.specs.declared.stepping.Stacks.{Stacks}
 use Rattle.c_machine.specs.Added.{Added, AddedPart}
-use Rattle.c_machine.specs.Words.{long_of, fixnum_of, word_text, status_of}
+use Rattle.c_machine.specs.Words.{long_of, fixnum_of, word_text, status_of, truth_of, boxed_truth_of, less_of}
 
 -- the function and the instruction that are next, the first slot of the function, the turns left, the slots, the frames that wait and the value that was made last
 pub record Config : Type 0 where
@@ -52,11 +53,14 @@ unboxed_of w = if nat_eq (w % 8) 0 then Gives (long_word (fixnum_of w)) [] else 
 abbrev pub performed : Action → ℕ → List ℕ → Gave
 performed (action.Copy a) base slots = Gives (look base slots a) []
 performed (action.BoxLong a) base slots = Gives (fixnum_word (long_of (look base slots a))) []
+performed (action.BoxBool a) base slots = Gives (boxed_truth_of (look base slots a)) []
 performed (action.UnboxLong a) base slots = unboxed_of (look base slots a)
+performed (action.Truth a) base slots = Gives (truth_of (look base slots a)) []
 performed (action.Raise code text) base slots = Quits (Raised code text)
 performed action.Args base slots = Gives 19 []
 performed (action.Status a) base slots = Gives (status_of (look base slots a)) []
 performed (action.Add a b) base slots = sum_of (long_of (look base slots a) +ℤ long_of (look base slots b))
+performed (action.Less a b) base slots = Gives (less_of (long_of (look base slots a)) (long_of (look base slots b))) []
 performed (action.Display a) base slots = Gives 27 (word_text (look base slots a))
 performed action.Newline base slots = Gives 27 (10 ∷ [])
 
@@ -69,6 +73,7 @@ abbrev pub delivered : Dest → ℕ → Config → Config
 delivered (dest.Local x) v c = record { fun = c.fun; pc = c.pc; base = c.base; turns = c.turns; slots = slice_set c.slots (c.base + x) v; frames = c.frames; value = v }
 delivered dest.Nowhere v c = record { fun = c.fun; pc = c.pc; base = c.base; turns = c.turns; slots = c.slots; frames = c.frames; value = v }
 delivered dest.Caller v c = record { fun = c.fun; pc = 0; base = c.base; turns = c.turns; slots = c.slots; frames = c.frames; value = v }
+delivered (dest.Test other) v c = record { fun = c.fun; pc = if nat_eq v 0 then other else c.pc; base = c.base; turns = c.turns; slots = c.slots; frames = c.frames; value = v }
 
 abbrev pub sent : Dest → Gave → Config → Move
 sent to (Gives v bytes) c = Goes (delivered to v c) bytes
@@ -98,7 +103,7 @@ abbrev pub turned : ℕ → Config → Move
 turned zero c = Ends Spent
 turned (suc t) c = Goes (record { fun = c.fun; pc = 2; base = c.base; turns = t; slots = c.slots; frames = c.frames; value = c.value }) []
 
--- what an instruction does. The place in this state is the one after it
+-- what an instruction does. The place in this state is that of the one after it
 abbrev pub act : Instr → List Function → Config → Move
 act (instr.Does to a) funs c = sent to (performed a c.base c.slots) c
 act (instr.Call to g args) funs c = called (slice_get funs g) to g args c
@@ -121,11 +126,14 @@ ReadsAll base slots (a ∷ others) = Reads base slots a × ReadsAll base slots o
 abbrev pub NeedsAction : Action → ℕ → List ℕ → Type 0
 NeedsAction (action.Copy a) base slots = Reads base slots a
 NeedsAction (action.BoxLong a) base slots = ReadsNumber base slots a
+NeedsAction (action.BoxBool a) base slots = Reads base slots a
 NeedsAction (action.UnboxLong a) base slots = Reads base slots a
+NeedsAction (action.Truth a) base slots = Reads base slots a
 NeedsAction (action.Raise code text) base slots = Unit {0}
 NeedsAction action.Args base slots = Unit {0}
 NeedsAction (action.Status a) base slots = Reads base slots a
 NeedsAction (action.Add a b) base slots = ReadsNumber base slots a × ReadsNumber base slots b
+NeedsAction (action.Less a b) base slots = Reads base slots a × Reads base slots b
 NeedsAction (action.Display a) base slots = Reads base slots a
 NeedsAction action.Newline base slots = Unit {0}
 
@@ -133,6 +141,7 @@ abbrev pub NeedsDest : Dest → ℕ → List ℕ → Type 0
 NeedsDest (dest.Local x) base slots = base + x < length slots
 NeedsDest dest.Nowhere base slots = Unit {0}
 NeedsDest dest.Caller base slots = Unit {0}
+NeedsDest (dest.Test other) base slots = Unit {0}
 
 abbrev pub NeedsFrames : List Frame → Config → Type 0
 NeedsFrames [] c = c.value < 256
@@ -196,13 +205,14 @@ Does (Ends e) Over new end before now = (end ≡ e) × Added before now []
 Does (Ends e) WriteFault new end before now = ⊥
 Does (Ends e) Memory new end before now = Added before now []
 
--- the instruction at a place of a function
-abbrev pub instr_in : Option Function → ℕ → Option Instr
-instr_in None pc = None
-instr_in (Some f) pc = slice_get f.code pc
+-- the line at a place of a function
+abbrev pub line_in : Option Function → ℕ → Option Line
+line_in None pc = None
+line_in (Some f) pc = slice_get f.code pc
 
-abbrev pub instr_at : List Function → ℕ → ℕ → Option Instr
-instr_at funs fun pc = instr_in (slice_get funs fun) pc
+abbrev pub line_at : List Function → ℕ → ℕ → Option Line
+line_at funs fun pc = line_in (slice_get funs fun) pc
 
-abbrev pub advanced : Config → Config
-advanced c = record { fun = c.fun; pc = c.pc + 1; base = c.base; turns = c.turns; slots = c.slots; frames = c.frames; value = c.value }
+-- a line's instruction is done with the place of the one after it
+abbrev pub advanced : ℕ → Config → Config
+advanced next c = record { fun = c.fun; pc = next; base = c.base; turns = c.turns; slots = c.slots; frames = c.frames; value = c.value }

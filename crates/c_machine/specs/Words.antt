@@ -1,5 +1,5 @@
 -- Words and numbers as 64 bits.
-use Rattle.std.specs.Prelude.{ℕ, ◌+◌, ◌-◌, ◌/◌, ◌%◌, ◌^◌, List, codes, nat_eq, nat_lt, ℤ, pos, negsuc, if◌then◌else◌}
+use Rattle.std.specs.Prelude.{ℕ, ◌+◌, ◌-◌, ◌/◌, ◌%◌, ◌^◌, List, codes, nat_eq, nat_lt, ℤ, pos, negsuc, int_lt, if◌then◌else◌}
 use Rattle.scheme_data.specs.Decimal.{number_text}
 use Rattle.c_meaning.specs.Operations.{small}
 
@@ -22,6 +22,17 @@ word_text w = if nat_eq (w % 8) 0 then number_text (fixnum_of w) else constant_t
 abbrev pub byte_of : ℤ → ℕ
 byte_of (pos n) = small n
 byte_of (negsuc n) = 0
+
+-- 0 of `#f`, and 1 of all else
+abbrev pub truth_of : ℕ → ℕ
+truth_of w = if nat_eq w 3 then 0 else 1
+
+-- `#f` of 0, and `#t` of all else
+abbrev pub boxed_truth_of : ℕ → ℕ
+boxed_truth_of v = if nat_eq v 0 then 3 else 11
+
+abbrev pub less_of : ℤ → ℤ → ℕ
+less_of a b = if int_lt a b then 1 else 0
 
 -- the fixnum from 0 to 255 of these bits, and 0 for all else
 abbrev pub status_of : ℕ → ℕ

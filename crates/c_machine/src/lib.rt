@@ -3,6 +3,8 @@
 
 mod calling;
 mod decoding;
+mod instructions;
+mod lines;
 mod machine;
 mod names;
 mod output;

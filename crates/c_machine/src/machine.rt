@@ -1,6 +1,6 @@
 ghost use Rattle.std.specs.Prelude.{◌≡◌, ◌≤◌, [], IfOk, OnErr, Err, IsErrOf, replicate};
 ghost use Rattle.base_io.specs.Causes.{Rose};
-ghost use Rattle.c_tree.specs.Code.{items_of};
+ghost use Rattle.c_tree.specs.Functions.{items_of};
 ghost use Rattle.c_meaning.specs.Program.{cm};
 ghost use Rattle.c_machine.specs.Runs.{Ran};
 
@@ -24,8 +24,8 @@ pub struct Machine {
 }
 
 impl Model for Machine {
-    ghost use Rattle.c_tree.specs.declared.tree.CProgram.{CProgram};
-    ghost use Rattle.c_tree.specs.contracts.tree.CProgram as the_program;
+    ghost use Rattle.c_tree.specs.declared.function.CProgram.{CProgram};
+    ghost use Rattle.c_tree.specs.contracts.function.CProgram as the_program;
     ghost use Rattle.c_machine.specs.Decoded.{IsDecoded};
 
     ghost Value = { CProgram };

@@ -9,7 +9,7 @@ ghost use Rattle.c_machine.specs.Words.{long_of};
 use crate::output::{display, put_all};
 use crate::program::{Action, Operand};
 use crate::stepping::{Acc, Flow};
-use crate::words::{bits_of, boxed, number_of, status, unboxed};
+use crate::words::{bits_of, boxed, boxed_truth, is_less, number_of, status, truth, unboxed};
 use base_io::{End, Sink};
 use scheme_data::{Text, is_in_range, is_long};
 use std::alloc::Global;
@@ -82,11 +82,17 @@ pub fn perform<K: Sink>(
     match action {
         Action::Copy(a) => give_value(acc, value(base, slots, a)),
         Action::BoxLong(a) => give_value(acc, boxed(value(base, slots, a))),
+        Action::BoxBool(a) => give_value(acc, boxed_truth(value(base, slots, a))),
         Action::UnboxLong(a) => unbox(alloc, value(base, slots, a), acc),
+        Action::Truth(a) => give_value(acc, truth(value(base, slots, a))),
         Action::Raise(code, text) => raise(alloc, *code, text.as_bytes(), acc),
         Action::Args => give_value(acc, 19),
         Action::Status(a) => give_value(acc, status(value(base, slots, a))),
         Action::Add(a, b) => sum(alloc, value(base, slots, a), value(base, slots, b), acc),
+        Action::Less(a, b) => give_value(
+            acc,
+            is_less(value(base, slots, a), value(base, slots, b)),
+        ),
         Action::Display(a) => {
             acc.value = 27;
             display(out, value(base, slots, a))

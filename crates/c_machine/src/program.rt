@@ -8,12 +8,13 @@ pub enum Operand {
     Word(u64),
 }
 
-/// Where a value goes: to a local by its place, nowhere, or to the caller.
+/// Where a value goes: to a local by its place, nowhere, or to the caller. Or it is a condition: where it is 0, the function goes on at this place.
 #[derive(Clone, Copy, Debug)]
 pub enum Dest {
     Local(usize),
     Nowhere,
     Caller,
+    Test(usize),
 }
 
 /// What gives a value without a call.
@@ -21,16 +22,19 @@ pub enum Dest {
 pub enum Action {
     Copy(Operand),
     BoxLong(Operand),
+    BoxBool(Operand),
     UnboxLong(Operand),
+    Truth(Operand),
     Raise(u8, Text),
     Args,
     Status(Operand),
     Add(Operand, Operand),
+    Less(Operand, Operand),
     Display(Operand),
     Newline,
 }
 
-/// An instruction. It goes on with the one after it, unless a turn or a function begins or ends there.
+/// An instruction.
 #[derive(Drop, Debug)]
 pub enum Instr {
     /// Sends the value of an action.
@@ -45,11 +49,18 @@ pub enum Instr {
     Stop,
 }
 
-/// A function: how many of its locals are no parameters, and its instructions.
+/// An instruction, and the place where the function goes on after it, unless a turn or a function begins or ends there.
+#[derive(Drop, Debug)]
+pub struct Line {
+    pub instr: Instr,
+    pub next: usize,
+}
+
+/// A function: how many of its locals are no parameters, and its code.
 #[derive(Drop, Debug)]
 pub struct Function {
     pub locals: usize,
-    pub code: List<Instr>,
+    pub code: List<Line>,
 }
 
 /// The place of the instruction with which a function gives its value.

@@ -1,7 +1,8 @@
 // One instruction.
-ghost use Rattle.std.specs.Prelude.{◌≡◌, ◌≤◌, ◌<◌, ◌+◌, length, slice_get, IsSome, Some};
+ghost use Rattle.std.specs.Prelude.{◌≡◌, ◌≤◌, ◌<◌, length, slice_get, IsSome, Some};
 ghost use Rattle.base_io.specs.Causes.{Rose};
-ghost use Rattle.c_machine.specs.Steps.{config_of, performed, delivered, sent, NeedsDest, NeedsAction, Needs, act, Does, instr_at};
+ghost use Rattle.c_machine.specs.Decoded.{line};
+ghost use Rattle.c_machine.specs.Steps.{config_of, performed, delivered, sent, NeedsDest, NeedsAction, Needs, act, Does, line_at};
 
 use crate::calling::{call, give, over, turn};
 use crate::performing::perform;
@@ -63,6 +64,11 @@ pub fn deliver(to: Dest, v: u64, regs: &mut Regs, stacks: &mut Stacks)
         }
         Dest::Nowhere => {}
         Dest::Caller => regs.pc = GIVE,
+        Dest::Test(other) => {
+            if v == 0 {
+                regs.pc = other;
+            }
+        }
     }
 }
 
@@ -125,15 +131,14 @@ pub fn function_at(funs: &[Function], fun: usize) -> &Function
     &funs[fun]
 }
 
-/// The next instruction, after which the one behind it is the next.
+/// The next instruction, after which the one that follows it is the next.
 #[inline(always)]
 pub fn fetch<'a>(funs: &'a [Function], regs: &mut Regs) -> &'a Instr
-    requires { IsSome (instr_at funs.now regs.old.fun regs.old.pc) }
-    ensures instr { instr_at funs.now regs.old.fun regs.old.pc ≡ Some result.now }
-    ensures regs { regs.new ≡ record regs.old { pc = regs.old.pc + 1 } }
+    requires { IsSome (line_at funs.now regs.old.fun regs.old.pc) }
+    ensures line { line_at funs.now regs.old.fun regs.old.pc ≡ Some (line result.now regs.new.pc) }
+    ensures regs { regs.new ≡ record regs.old { pc = regs.new.pc } }
 {
-    let code = function_at(funs, regs.fun).code.as_slice();
-    let at = regs.pc;
-    regs.pc = at + 1;
-    &code[at]
+    let line = &function_at(funs, regs.fun).code.as_slice()[regs.pc];
+    regs.pc = line.next;
+    &line.instr
 }

@@ -2,7 +2,7 @@ use crate::Machine;
 use base_io::{End, Failed, MemSink, RunErr, Sink};
 use c_check::check;
 use c_tree::{
-    CArg, CAtom, CBody, CCall, CExpr, CFun, CItem, CProgram, CStmt, CTy, CVar, Callee, Op,
+    CArg, CAtom, CCall, CExpr, CFun, CItem, CProgram, CTy, CVar, Callee, Layout, Op, Piece, lay_out,
 };
 use prim_table::Primitive;
 use scheme_data::{CallList, List, OutOfMemory, Text, TextList};
@@ -25,6 +25,12 @@ enum Block {
     Raise,
     /// Returns the sum of two numbers.
     Give(i64, i64),
+    /// Shows 7 where the first number is the smaller one, and else the truth value of that.
+    Choose(i64, i64),
+    /// Returns where a constant is true, and else ends without a return.
+    Ask(Shown),
+    /// Shows which blocks of an `if` and of those in its blocks two conditions choose.
+    Nested(i64, i64),
 }
 
 #[derive(Clone, Copy, Debug)]
@@ -77,15 +83,28 @@ fn operation(alloc: Global, op: Op, a: CAtom) -> Result<CCall, OutOfMemory> {
     Ok(call)
 }
 
-fn assign(alloc: Global, bytes: &[u8], call: CCall) -> Result<CStmt, OutOfMemory> {
-    Ok(CStmt::Assign(Text::from_bytes(alloc, bytes)?, CExpr::Call(call)))
+fn binary(alloc: Global, op: Primitive, a: i64, b: i64) -> Result<CCall, OutOfMemory> {
+    let mut call = operation(alloc, Op::Primitive(op), CAtom::Int(a))?;
+    call.args.push(CArg::Atom(CAtom::Int(b)))?;
+    Ok(call)
+}
+
+fn assign(alloc: Global, bytes: &[u8], call: CCall) -> Result<Piece, OutOfMemory> {
+    Ok(Piece::Assign(Text::from_bytes(alloc, bytes)?, CExpr::Call(call)))
+}
+
+fn returns(call: CCall) -> Piece {
+    Piece::Return(CExpr::Call(call))
+}
+
+fn newline(alloc: Global) -> CCall {
+    no_argument(alloc, Op::Primitive(Primitive::Newline))
 }
 
 // `x1 = bgl_p__2b(a, b); x2 = bgl_box_long(x1);`
-fn push_sum(alloc: Global, a: i64, b: i64, block: &mut List<CStmt>) -> Result<(), OutOfMemory> {
-    let mut call = operation(alloc, Op::Primitive(Primitive::Add), CAtom::Int(a))?;
-    call.args.push(CArg::Atom(CAtom::Int(b)))?;
-    block.push(assign(alloc, b"x1", call)?)?;
+fn push_sum(alloc: Global, a: i64, b: i64, block: &mut List<Piece>) -> Result<(), OutOfMemory> {
+    let sum = binary(alloc, Primitive::Add, a, b)?;
+    block.push(assign(alloc, b"x1", sum)?)?;
     let boxed = operation(alloc, Op::BoxLong, name(alloc, b"x1")?)?;
     block.push(assign(alloc, b"x2", boxed)?)
 }
@@ -110,50 +129,114 @@ fn raise(alloc: Global, code: i64, text: &[u8]) -> Result<CCall, OutOfMemory> {
     Ok(call)
 }
 
-fn statements(alloc: Global, block: Block) -> Result<List<CStmt>, OutOfMemory> {
-    let mut list = List::new(alloc);
-    let newline = no_argument(alloc, Op::Primitive(Primitive::Newline));
-    match block {
-        Block::Sum(a, b) => {
-            push_sum(alloc, a, b, &mut list)?;
-            list.push(CStmt::Call(display(alloc, name(alloc, b"x2")?)?))?;
-            list.push(CStmt::Return(CExpr::Call(newline)))?;
-        }
-        Block::Newline => list.push(CStmt::Call(newline))?,
-        Block::Blank => {
-            let call = display(alloc, name(alloc, b"x2")?)?;
-            list.push(CStmt::Return(CExpr::Call(call)))?;
-        }
-        Block::NoNumber => {
-            let call = operation(alloc, Op::UnboxLong, CAtom::Nil)?;
-            list.push(assign(alloc, b"x1", call)?)?;
-        }
-        Block::Show(shown) => {
-            let call = display(alloc, constant(shown))?;
-            list.push(CStmt::Return(CExpr::Call(call)))?;
-        }
-        Block::Raise => list.push(CStmt::Call(raise(alloc, 10, b"a")?))?,
-        Block::Give(a, b) => {
-            push_sum(alloc, a, b, &mut list)?;
-            list.push(CStmt::Return(CExpr::Atom(name(alloc, b"x2")?)))?;
-        }
-    }
-    Ok(list)
+// `x3 = bgl_p__3c(a, b); if (x3) { x2 = bgl_box_long(7); } else { x2 = bgl_box_bool(x3); } return bgl_p_display(x2);`
+fn push_choice(alloc: Global, a: i64, b: i64, block: &mut List<Piece>) -> Result<(), OutOfMemory> {
+    let less = binary(alloc, Primitive::Less, a, b)?;
+    block.push(assign(alloc, b"x3", less)?)?;
+    block.push(Piece::If(CExpr::Atom(name(alloc, b"x3")?)))?;
+    let seven = operation(alloc, Op::BoxLong, CAtom::Int(7))?;
+    block.push(assign(alloc, b"x2", seven)?)?;
+    block.push(Piece::Else)?;
+    let truth = operation(alloc, Op::BoxBool, name(alloc, b"x3")?)?;
+    block.push(assign(alloc, b"x2", truth)?)?;
+    block.push(Piece::End)?;
+    block.push(returns(display(alloc, name(alloc, b"x2")?)?))
 }
 
-// `obj f_hello__go(obj x0) { long x1; obj x2; L0: for (;;) { .. } }`
+// `if (bgl_truth(constant)) { return bgl_p_newline(); } else { }`
+fn push_question(alloc: Global, shown: Shown, block: &mut List<Piece>) -> Result<(), OutOfMemory> {
+    let truth = operation(alloc, Op::Truth, constant(shown))?;
+    block.push(Piece::If(CExpr::Call(truth)))?;
+    block.push(returns(newline(alloc)))?;
+    block.push(Piece::Else)?;
+    block.push(Piece::End)
+}
+
+fn push_test(n: i64, block: &mut List<Piece>) -> Result<(), OutOfMemory> {
+    block.push(Piece::If(CExpr::Atom(CAtom::Int(n))))
+}
+
+// `if (outer) { if (inner) { bgl_p_display(BGL_TRUE); } else { } bgl_p_newline(); } else { if (inner) { } else { bgl_p_display(BGL_FALSE); } } return bgl_p_display(BGL_NIL);`
+fn push_nested(
+    alloc: Global,
+    outer: i64,
+    inner: i64,
+    block: &mut List<Piece>,
+) -> Result<(), OutOfMemory> {
+    push_test(outer, block)?;
+    push_test(inner, block)?;
+    block.push(Piece::Call(display(alloc, CAtom::True)?))?;
+    block.push(Piece::Else)?;
+    block.push(Piece::End)?;
+    block.push(Piece::Call(newline(alloc)))?;
+    block.push(Piece::Else)?;
+    push_test(inner, block)?;
+    block.push(Piece::Else)?;
+    block.push(Piece::Call(display(alloc, CAtom::False)?))?;
+    block.push(Piece::End)?;
+    block.push(Piece::End)?;
+    block.push(returns(display(alloc, CAtom::Nil)?))
+}
+
+fn push_block(alloc: Global, block: Block, pieces: &mut List<Piece>) -> Result<(), OutOfMemory> {
+    match block {
+        Block::Sum(a, b) => {
+            push_sum(alloc, a, b, pieces)?;
+            pieces.push(Piece::Call(display(alloc, name(alloc, b"x2")?)?))?;
+            pieces.push(returns(newline(alloc)))
+        }
+        Block::Newline => pieces.push(Piece::Call(newline(alloc))),
+        Block::Blank => pieces.push(returns(display(alloc, name(alloc, b"x2")?)?)),
+        Block::NoNumber => {
+            let call = operation(alloc, Op::UnboxLong, CAtom::Nil)?;
+            pieces.push(assign(alloc, b"x1", call)?)
+        }
+        Block::Show(shown) => pieces.push(returns(display(alloc, constant(shown))?)),
+        Block::Raise => pieces.push(Piece::Call(raise(alloc, 10, b"a")?)),
+        Block::Give(a, b) => {
+            push_sum(alloc, a, b, pieces)?;
+            pieces.push(Piece::Return(CExpr::Atom(name(alloc, b"x2")?)))
+        }
+        Block::Choose(a, b) => push_choice(alloc, a, b, pieces),
+        Block::Ask(shown) => push_question(alloc, shown, pieces),
+        Block::Nested(outer, inner) => push_nested(alloc, outer, inner, pieces),
+    }
+}
+
+// The pieces of one loop, before its block.
+fn loop_begun(alloc: Global) -> Result<List<Piece>, OutOfMemory> {
+    let mut pieces = List::new(alloc);
+    pieces.push(Piece::Loop(Text::from_bytes(alloc, b"L0")?))?;
+    Ok(pieces)
+}
+
+// Pieces that are those of no statements answer want of memory.
+fn laid_out(alloc: Global, pieces: List<Piece>) -> Result<Layout, OutOfMemory> {
+    match lay_out(alloc, pieces)? {
+        Some(layout) => Ok(layout),
+        None => Err(OutOfMemory),
+    }
+}
+
+// `obj f_hello__go(obj x0) { long x1; obj x2; int x3; L0: for (;;) { .. } }`
 fn function(alloc: Global, block: Block) -> Result<CItem, OutOfMemory> {
     let mut params = List::new(alloc);
     params.push(variable(alloc, CTy::Obj, b"x0")?)?;
     let mut locals = List::new(alloc);
     locals.push(variable(alloc, CTy::Long, b"x1")?)?;
     locals.push(variable(alloc, CTy::Obj, b"x2")?)?;
+    locals.push(variable(alloc, CTy::Int, b"x3")?)?;
+    let mut pieces = loop_begun(alloc)?;
+    push_block(alloc, block, &mut pieces)?;
+    pieces.push(Piece::End)?;
+    let layout = laid_out(alloc, pieces)?;
     Ok(CItem::Defined(CFun {
         result: CTy::Obj,
         name: Text::from_bytes(alloc, b"f_hello__go")?,
         params,
         locals,
-        body: CBody::Looped(Text::from_bytes(alloc, b"L0")?, statements(alloc, block)?),
+        body: layout.body,
+        stmts: layout.stmts,
     }))
 }
 
@@ -171,13 +254,15 @@ fn main_function(alloc: Global) -> Result<CItem, OutOfMemory> {
     body.push(assign(alloc, b"x0", no_argument(alloc, Op::Args))?)?;
     body.push(assign(alloc, b"x1", call)?)?;
     let status = operation(alloc, Op::Status, name(alloc, b"x1")?)?;
-    body.push(CStmt::Return(CExpr::Call(status)))?;
+    body.push(returns(status))?;
+    let layout = laid_out(alloc, body)?;
     Ok(CItem::Defined(CFun {
         result: CTy::Int,
         name: Text::from_bytes(alloc, b"main")?,
         params: List::new(alloc),
         locals,
-        body: CBody::Straight(body),
+        body: layout.body,
+        stmts: layout.stmts,
     }))
 }
 
@@ -199,7 +284,7 @@ fn machine_of(alloc: Global, items: List<CItem>) -> Result<Machine, OutOfMemory>
 fn programs_print_and_end_as_the_rows_say(rt: HostRuntime) -> Result<(), OutOfMemory> {
     let alloc = rt.alloc();
     let args = TextList::new(alloc);
-    let rows: [(Block, u64, &[u8], Want); 16] = [
+    let rows: [(Block, u64, &[u8], Want); 24] = [
         (Block::Sum(40, 2), 1, b"42\n", Want::Ended(0)),
         (Block::Sum(40, 2), 0, b"", Want::Spent),
         (Block::Sum(-7, 2), 1, b"-5\n", Want::Ended(0)),
@@ -231,6 +316,14 @@ fn programs_print_and_end_as_the_rows_say(rt: HostRuntime) -> Result<(), OutOfMe
         (Block::Raise, 1, b"", Want::Raised(10, b"a")),
         (Block::Give(3, 4), 1, b"", Want::Ended(7)),
         (Block::Give(255, 1), 1, b"", Want::Ended(0)),
+        (Block::Choose(1, 2), 1, b"7", Want::Ended(0)),
+        (Block::Choose(2, 2), 1, b"#f", Want::Ended(0)),
+        (Block::Ask(Shown::Nil), 1, b"\n", Want::Ended(0)),
+        (Block::Ask(Shown::False), 2, b"", Want::Spent),
+        (Block::Nested(1, 1), 1, b"#t\n()", Want::Ended(0)),
+        (Block::Nested(2, 0), 1, b"\n()", Want::Ended(0)),
+        (Block::Nested(0, 1), 1, b"()", Want::Ended(0)),
+        (Block::Nested(0, 0), 1, b"#f()", Want::Ended(0)),
     ];
     for (block, turns, output, want) in rows {
         let mut machine = machine(alloc, block)?;
@@ -253,6 +346,8 @@ enum Calls {
     Chain,
     /// Three functions in a row, the last of which raises an error.
     Raising,
+    /// The second function gives a number, which is a condition in the first.
+    Asking(i64),
 }
 
 const FIRST: &[u8] = b"f_hello__first";
@@ -272,17 +367,17 @@ fn function_call(alloc: Global, callee: &[u8], a: CAtom, b: CAtom) -> Result<CCa
 }
 
 // `x2 = callee(x1, x0);`
-fn swapped_call(alloc: Global, callee: &[u8]) -> Result<CStmt, OutOfMemory> {
+fn swapped_call(alloc: Global, callee: &[u8]) -> Result<Piece, OutOfMemory> {
     let call = function_call(alloc, callee, name(alloc, b"x1")?, name(alloc, b"x0")?)?;
     assign(alloc, b"x2", call)
 }
 
-fn show(alloc: Global, bytes: &[u8]) -> Result<CStmt, OutOfMemory> {
-    Ok(CStmt::Call(display(alloc, name(alloc, bytes)?)?))
+fn show(alloc: Global, bytes: &[u8]) -> Result<Piece, OutOfMemory> {
+    Ok(Piece::Call(display(alloc, name(alloc, bytes)?)?))
 }
 
-fn give(alloc: Global, bytes: &[u8]) -> Result<CStmt, OutOfMemory> {
-    Ok(CStmt::Return(CExpr::Atom(name(alloc, bytes)?)))
+fn give(alloc: Global, bytes: &[u8]) -> Result<Piece, OutOfMemory> {
+    Ok(Piece::Return(CExpr::Atom(name(alloc, bytes)?)))
 }
 
 // `obj callee(obj, obj);`
@@ -293,58 +388,66 @@ fn declaration(alloc: Global, callee: &[u8]) -> Result<CItem, OutOfMemory> {
     Ok(CItem::Declared(CTy::Obj, Text::from_bytes(alloc, callee)?, params))
 }
 
-// `obj callee(obj x0, obj x1) { obj x2; L0: for (;;) { .. } }`
-fn definition(alloc: Global, callee: &[u8], block: List<CStmt>) -> Result<CItem, OutOfMemory> {
+// `ty callee(obj x0, obj x1) { obj x2; L0: for (;;) { .. } }`, where the end of the block is still to come.
+fn definition(
+    alloc: Global,
+    ty: CTy,
+    callee: &[u8],
+    begun: List<Piece>,
+) -> Result<CItem, OutOfMemory> {
     let mut params = List::new(alloc);
     params.push(variable(alloc, CTy::Obj, b"x0")?)?;
     params.push(variable(alloc, CTy::Obj, b"x1")?)?;
     let mut locals = List::new(alloc);
     locals.push(variable(alloc, CTy::Obj, b"x2")?)?;
+    let mut pieces = begun;
+    pieces.push(Piece::End)?;
+    let layout = laid_out(alloc, pieces)?;
     Ok(CItem::Defined(CFun {
-        result: CTy::Obj,
+        result: ty,
         name: Text::from_bytes(alloc, callee)?,
         params,
         locals,
-        body: CBody::Looped(Text::from_bytes(alloc, b"L0")?, block),
+        body: layout.body,
+        stmts: layout.stmts,
     }))
 }
 
 // Shows its parameters, calls a function with them in the other order, shows what that gives, and gives its first parameter.
 fn link(alloc: Global, callee: &[u8], next: &[u8]) -> Result<CItem, OutOfMemory> {
-    let mut block = List::new(alloc);
+    let mut block = loop_begun(alloc)?;
     block.push(show(alloc, b"x0")?)?;
     block.push(show(alloc, b"x1")?)?;
     block.push(swapped_call(alloc, next)?)?;
     block.push(show(alloc, b"x2")?)?;
     block.push(give(alloc, b"x0")?)?;
-    definition(alloc, callee, block)
+    definition(alloc, CTy::Obj, callee, block)
 }
 
 // Shows its parameters, and gives the first.
 fn last_link(alloc: Global) -> Result<CItem, OutOfMemory> {
-    let mut block = List::new(alloc);
+    let mut block = loop_begun(alloc)?;
     block.push(show(alloc, b"x0")?)?;
     block.push(show(alloc, b"x1")?)?;
     block.push(give(alloc, b"x0")?)?;
-    definition(alloc, THIRD, block)
+    definition(alloc, CTy::Obj, THIRD, block)
 }
 
 fn raising_link(alloc: Global) -> Result<CItem, OutOfMemory> {
-    let mut block = List::new(alloc);
-    block.push(CStmt::Call(raise(alloc, 2, b"1")?))?;
-    definition(alloc, THIRD, block)
+    let mut block = loop_begun(alloc)?;
+    block.push(Piece::Call(raise(alloc, 2, b"1")?))?;
+    definition(alloc, CTy::Obj, THIRD, block)
 }
 
 fn push_itself(alloc: Global, shows: bool, items: &mut List<CItem>) -> Result<(), OutOfMemory> {
-    let mut block = List::new(alloc);
+    let mut block = loop_begun(alloc)?;
     if shows {
-        let newline = no_argument(alloc, Op::Primitive(Primitive::Newline));
-        block.push(CStmt::Call(newline))?;
+        block.push(Piece::Call(newline(alloc)))?;
     }
     block.push(swapped_call(alloc, FIRST)?)?;
     block.push(give(alloc, b"x2")?)?;
     items.push(declaration(alloc, FIRST)?)?;
-    items.push(definition(alloc, FIRST, block)?)
+    items.push(definition(alloc, CTy::Obj, FIRST, block)?)
 }
 
 fn push_chain(alloc: Global, last: CItem, items: &mut List<CItem>) -> Result<(), OutOfMemory> {
@@ -355,6 +458,22 @@ fn push_chain(alloc: Global, last: CItem, items: &mut List<CItem>) -> Result<(),
     items.push(last)
 }
 
+// `if (f_hello__second(x0, x1)) { bgl_p_display(x0); } else { bgl_p_display(x1); } return x1;`, where the second function gives this number.
+fn push_asking(alloc: Global, n: i64, items: &mut List<CItem>) -> Result<(), OutOfMemory> {
+    let mut second = loop_begun(alloc)?;
+    second.push(Piece::Return(CExpr::Atom(CAtom::Int(n))))?;
+    items.push(definition(alloc, CTy::Int, SECOND, second)?)?;
+    let mut first = loop_begun(alloc)?;
+    let call = function_call(alloc, SECOND, name(alloc, b"x0")?, name(alloc, b"x1")?)?;
+    first.push(Piece::If(CExpr::Call(call)))?;
+    first.push(show(alloc, b"x0")?)?;
+    first.push(Piece::Else)?;
+    first.push(show(alloc, b"x1")?)?;
+    first.push(Piece::End)?;
+    first.push(give(alloc, b"x1")?)?;
+    items.push(definition(alloc, CTy::Obj, FIRST, first)?)
+}
+
 // `int main(void) { obj x0; x0 = f_hello__first(BGL_TRUE, BGL_NIL); return bgl_status(x0); }`
 fn main_of_calls(alloc: Global) -> Result<CItem, OutOfMemory> {
     let mut locals = List::new(alloc);
@@ -363,13 +482,15 @@ fn main_of_calls(alloc: Global) -> Result<CItem, OutOfMemory> {
     let call = function_call(alloc, FIRST, CAtom::True, CAtom::Nil)?;
     body.push(assign(alloc, b"x0", call)?)?;
     let status = operation(alloc, Op::Status, name(alloc, b"x0")?)?;
-    body.push(CStmt::Return(CExpr::Call(status)))?;
+    body.push(returns(status))?;
+    let layout = laid_out(alloc, body)?;
     Ok(CItem::Defined(CFun {
         result: CTy::Int,
         name: Text::from_bytes(alloc, b"main")?,
         params: List::new(alloc),
         locals,
-        body: CBody::Straight(body),
+        body: layout.body,
+        stmts: layout.stmts,
     }))
 }
 
@@ -380,6 +501,7 @@ fn machine_of_calls(alloc: Global, calls: Calls) -> Result<Machine, OutOfMemory>
         Calls::Silently => push_itself(alloc, false, &mut items)?,
         Calls::Chain => push_chain(alloc, last_link(alloc)?, &mut items)?,
         Calls::Raising => push_chain(alloc, raising_link(alloc)?, &mut items)?,
+        Calls::Asking(n) => push_asking(alloc, n, &mut items)?,
     }
     items.push(main_of_calls(alloc)?)?;
     machine_of(alloc, items)
@@ -389,13 +511,16 @@ fn machine_of_calls(alloc: Global, calls: Calls) -> Result<Machine, OutOfMemory>
 fn calls_print_and_end_as_the_rows_say(rt: HostRuntime) -> Result<(), OutOfMemory> {
     let alloc = rt.alloc();
     let args = TextList::new(alloc);
-    let rows: [(Calls, u64, &[u8], Want); 6] = [
+    let rows: [(Calls, u64, &[u8], Want); 9] = [
         (Calls::Itself, 5, b"\n\n\n\n\n", Want::Spent),
         (Calls::Silently, 100_000, b"", Want::Spent),
         (Calls::Chain, 3, b"#t()()#t#t()#t()", Want::Ended(0)),
         (Calls::Chain, 2, b"#t()()#t", Want::Spent),
         (Calls::Raising, 3, b"#t()()#t", Want::Raised(2, b"1")),
         (Calls::Raising, 2, b"#t()()#t", Want::Spent),
+        (Calls::Asking(1), 2, b"#t", Want::Ended(0)),
+        (Calls::Asking(0), 2, b"()", Want::Ended(0)),
+        (Calls::Asking(1), 1, b"", Want::Spent),
     ];
     for (calls, turns, output, want) in rows {
         let mut machine = machine_of_calls(alloc, calls)?;

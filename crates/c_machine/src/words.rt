@@ -1,7 +1,7 @@
 // Words and numbers as 64 bits.
 ghost use Rattle.std.specs.Prelude.{◌≡◌, ◌%◌};
 ghost use Rattle.scheme_data.specs.Fixnum.{IsFixnum, IsFixnumWord, fixnum_word, long_word};
-ghost use Rattle.c_machine.specs.Words.{long_of, fixnum_of, constant_text, byte_of, status_of};
+ghost use Rattle.c_machine.specs.Words.{long_of, fixnum_of, constant_text, byte_of, status_of, truth_of, boxed_truth_of, less_of};
 
 use scheme_data::{box_long, is_long, unbox_long};
 
@@ -58,6 +58,30 @@ pub fn status(w: u64) -> u64
     } else {
         0
     }
+}
+
+/// A truth value as a number: 0 of `#f`, and 1 of all else.
+#[inline(always)]
+pub fn truth(w: u64) -> u64
+    ensures { result ≡ truth_of w }
+{
+    u64::from(w != 3)
+}
+
+/// A truth value as a word: `#f` of 0, and `#t` of all else.
+#[inline(always)]
+pub fn boxed_truth(v: u64) -> u64
+    ensures { result ≡ boxed_truth_of v }
+{
+    if v == 0 { 3 } else { 11 }
+}
+
+/// 1 where the first number is the smaller one, and else 0.
+#[inline(always)]
+pub fn is_less(a: u64, b: u64) -> u64
+    ensures { result ≡ less_of (long_of a) (long_of b) }
+{
+    u64::from(number_of(a) < number_of(b))
 }
 
 /// How a constant prints.

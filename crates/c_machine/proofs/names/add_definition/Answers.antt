@@ -1,6 +1,6 @@
 use Rattle.std.proofs.Common.{◌≡◌, true, ◌++◌, [], subst, ap, ◌∙◌}
 use Rattle.name_table.specs.Names.{has_name}
-use Rattle.c_tree.specs.declared.tree.CItem.{CItem}
+use Rattle.c_tree.specs.declared.function.CItem.{CItem}
 use Rattle.c_meaning.specs.Checked.{are_distinct}
 use Rattle.c_machine.specs.Decoded.{function_names, definition_in}
 use Rattle.c_machine.proofs.Distinct.{distinct_new}

@@ -1,10 +1,10 @@
 use Rattle.std.proofs.Common.{ℕ, List, [], ap, sym, subst, arith}
-use Rattle.c_tree.specs.Code.{items_of}
+use Rattle.c_tree.specs.Functions.{items_of}
 use Rattle.c_meaning.specs.Program.{cm}
 use Rattle.c_machine.specs.declared.stepping.Frame.{Frame}
 use Rattle.c_machine.specs.declared.stepping.Regs.{Regs}
 use Rattle.c_machine.specs.Steps.{config_of}
-use Rattle.c_machine.proofs.Runs.{MeansIn, begins, begun, main_within, seen_through, instr_is_there, step_needs, step_goes, step_falls, step_ends, step_cannot_write, step_lacks_memory, ran_ok, ran_err}
+use Rattle.c_machine.proofs.Runs.{MeansIn, begins, begun, main_within, seen_through, line_is_there, step_needs, step_goes, step_falls, step_ends, step_cannot_write, step_lacks_memory, ran_ok, ran_err}
 use Rattle.c_machine.proofs.machine.Machine.run.Goals as goal
 
 pub function_at-requires : goal.function_at-requires
@@ -35,7 +35,7 @@ pub fetch-instr-requires : goal.fetch-instr-requires
 fetch-instr-requires g c =
     let d = seen_through c.self.inside.program c.args.self.now c.self.inside.functions c.as_slice-funs.result.now c.self.inside.main c.self.view_is c.as_slice-funs.ensures c.self.invariant in
     let goes = c.steps.invariant.goes in
-    instr_is_there c.args.self.now.items c.as_slice-funs.result.now c.self.inside.main (config_of c.steps.regs c.steps.stacks c.steps.acc.value) goes.output _ d goes.means
+    line_is_there c.args.self.now.items c.as_slice-funs.result.now c.self.inside.main (config_of c.steps.regs c.steps.stacks c.steps.acc.value) goes.output _ d goes.means
 
 pub step-requires : goal.step-requires
 step-requires g c =
@@ -47,7 +47,7 @@ step-requires g c =
     let is = ap (λ (r : Regs). config_of r c.steps.stacks c.steps.acc.value) c.fetch-instr.ensures.regs in
     let first = g.K.Sink.written c.args.out.now in
     let before = g.K.Sink.written c.steps.out in
-    step_needs items c.as_slice-funs.result.now c.self.inside.main d now fetched w first before c.steps.invariant.goes c.fetch-instr.result.now c.fetch-instr.ensures.instr is
+    step_needs items c.as_slice-funs.result.now c.self.inside.main d now fetched w first before c.steps.invariant.goes c.fetch-instr.result.now c.fetch-instr.new.regs.pc c.fetch-instr.ensures.line is
 
 pub steps-smaller : goal.steps-smaller
 steps-smaller g c =
@@ -59,7 +59,7 @@ steps-smaller g c =
     let is = ap (λ (r : Regs). config_of r c.steps.stacks c.steps.acc.value) c.fetch-instr.ensures.regs in
     let first = g.K.Sink.written c.args.out.now in
     let before = g.K.Sink.written c.steps.out in
-    step_falls items c.as_slice-funs.result.now c.self.inside.main d now fetched w first before c.steps.invariant.goes c.fetch-instr.result.now c.fetch-instr.ensures.instr is (config_of c.step.new.regs c.step.new.stacks c.step.new.acc.value) c.step.new.acc.end (g.K.Sink.written c.step.new.out) (c.in-Going.ensures {u = tt}).does
+    step_falls items c.as_slice-funs.result.now c.self.inside.main d now fetched w first before c.steps.invariant.goes c.fetch-instr.result.now c.fetch-instr.new.regs.pc c.fetch-instr.ensures.line is (config_of c.step.new.regs c.step.new.stacks c.step.new.acc.value) c.step.new.acc.end (g.K.Sink.written c.step.new.out) (c.in-Going.ensures {u = tt}).does
 
 pub steps-preserved : goal.steps-preserved
 steps-preserved g c =
@@ -73,7 +73,7 @@ steps-preserved g c =
     let before = g.K.Sink.written c.steps.out in
     let h = c.in-Going.ensures {u = tt} in
     record {
-      goes = step_goes items c.as_slice-funs.result.now c.self.inside.main d now fetched w first before c.steps.invariant.goes c.fetch-instr.result.now c.fetch-instr.ensures.instr is (config_of c.step.new.regs c.step.new.stacks c.step.new.acc.value) c.step.new.acc.end (g.K.Sink.written c.step.new.out) h.does;
+      goes = step_goes items c.as_slice-funs.result.now c.self.inside.main d now fetched w first before c.steps.invariant.goes c.fetch-instr.result.now c.fetch-instr.new.regs.pc c.fetch-instr.ensures.line is (config_of c.step.new.regs c.step.new.stacks c.step.new.acc.value) c.step.new.acc.end (g.K.Sink.written c.step.new.out) h.does;
       later = omega (arith, h.later, c.steps.invariant.later);
     }
 
@@ -87,7 +87,7 @@ returns-in-Over-clause-told g c =
     let is = ap (λ (r : Regs). config_of r c.steps.stacks c.steps.acc.value) c.fetch-instr.ensures.regs in
     let first = g.K.Sink.written c.args.out.now in
     let before = g.K.Sink.written c.steps.out in
-    let e = step_ends items c.as_slice-funs.result.now c.self.inside.main d now fetched w first before c.steps.invariant.goes c.fetch-instr.result.now c.fetch-instr.ensures.instr is (config_of c.step.new.regs c.step.new.stacks c.step.new.acc.value) c.step.new.acc.end (g.K.Sink.written c.step.new.out) (c.in-Over.ensures {u = tt}).does in
+    let e = step_ends items c.as_slice-funs.result.now c.self.inside.main d now fetched w first before c.steps.invariant.goes c.fetch-instr.result.now c.fetch-instr.new.regs.pc c.fetch-instr.ensures.line is (config_of c.step.new.regs c.step.new.stacks c.step.new.acc.value) c.step.new.acc.end (g.K.Sink.written c.step.new.out) (c.in-Over.ensures {u = tt}).does in
     ran_ok first (g.K.Sink.written c.step.new.out) w c.step.new.acc.end e.told
 
 pub returns-in-Over-clause-end : goal.returns-in-Over-clause-end
@@ -100,7 +100,7 @@ returns-in-Over-clause-end g c =
     let is = ap (λ (r : Regs). config_of r c.steps.stacks c.steps.acc.value) c.fetch-instr.ensures.regs in
     let first = g.K.Sink.written c.args.out.now in
     let before = g.K.Sink.written c.steps.out in
-    (step_ends items c.as_slice-funs.result.now c.self.inside.main d now fetched w first before c.steps.invariant.goes c.fetch-instr.result.now c.fetch-instr.ensures.instr is (config_of c.step.new.regs c.step.new.stacks c.step.new.acc.value) c.step.new.acc.end (g.K.Sink.written c.step.new.out) (c.in-Over.ensures {u = tt}).does).is
+    (step_ends items c.as_slice-funs.result.now c.self.inside.main d now fetched w first before c.steps.invariant.goes c.fetch-instr.result.now c.fetch-instr.new.regs.pc c.fetch-instr.ensures.line is (config_of c.step.new.regs c.step.new.stacks c.step.new.acc.value) c.step.new.acc.end (g.K.Sink.written c.step.new.out) (c.in-Over.ensures {u = tt}).does).is
 
 pub returns-in-WriteFault-clause-told : goal.returns-in-WriteFault-clause-told
 returns-in-WriteFault-clause-told g c =
@@ -112,7 +112,7 @@ returns-in-WriteFault-clause-told g c =
     let is = ap (λ (r : Regs). config_of r c.steps.stacks c.steps.acc.value) c.fetch-instr.ensures.regs in
     let first = g.K.Sink.written c.args.out.now in
     let before = g.K.Sink.written c.steps.out in
-    ran_err first (g.K.Sink.written c.step.new.out) w _ (step_cannot_write items c.as_slice-funs.result.now c.self.inside.main d now fetched w first before c.steps.invariant.goes c.fetch-instr.result.now c.fetch-instr.ensures.instr is (config_of c.step.new.regs c.step.new.stacks c.step.new.acc.value) c.step.new.acc.end (g.K.Sink.written c.step.new.out) (c.in-WriteFault.ensures {u = tt}).does)
+    ran_err first (g.K.Sink.written c.step.new.out) w _ (step_cannot_write items c.as_slice-funs.result.now c.self.inside.main d now fetched w first before c.steps.invariant.goes c.fetch-instr.result.now c.fetch-instr.new.regs.pc c.fetch-instr.ensures.line is (config_of c.step.new.regs c.step.new.stacks c.step.new.acc.value) c.step.new.acc.end (g.K.Sink.written c.step.new.out) (c.in-WriteFault.ensures {u = tt}).does)
 
 pub returns-in-Memory-clause-told : goal.returns-in-Memory-clause-told
 returns-in-Memory-clause-told g c =
@@ -124,4 +124,4 @@ returns-in-Memory-clause-told g c =
     let is = ap (λ (r : Regs). config_of r c.steps.stacks c.steps.acc.value) c.fetch-instr.ensures.regs in
     let first = g.K.Sink.written c.args.out.now in
     let before = g.K.Sink.written c.steps.out in
-    ran_err first (g.K.Sink.written c.step.new.out) w _ (step_lacks_memory items c.as_slice-funs.result.now c.self.inside.main d now fetched w first before c.steps.invariant.goes c.fetch-instr.result.now c.fetch-instr.ensures.instr is (config_of c.step.new.regs c.step.new.stacks c.step.new.acc.value) c.step.new.acc.end (g.K.Sink.written c.step.new.out) (c.in-Memory.ensures {u = tt}).does)
+    ran_err first (g.K.Sink.written c.step.new.out) w _ (step_lacks_memory items c.as_slice-funs.result.now c.self.inside.main d now fetched w first before c.steps.invariant.goes c.fetch-instr.result.now c.fetch-instr.new.regs.pc c.fetch-instr.ensures.line is (config_of c.step.new.regs c.step.new.stacks c.step.new.acc.value) c.step.new.acc.end (g.K.Sink.written c.step.new.out) (c.in-Memory.ensures {u = tt}).does)

@@ -1,5 +1,5 @@
 use Rattle.std.proofs.Common.{◌≤◌}
-use Rattle.c_tree.specs.Code.{items_of}
+use Rattle.c_tree.specs.Functions.{items_of}
 use Rattle.c_meaning.specs.Program.{cm}
 use Rattle.c_machine.specs.Steps.{config_of}
 use Rattle.c_machine.proofs.Means.{work}

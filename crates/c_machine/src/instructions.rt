@@ -1,0 +1,139 @@
+// From expressions to instructions.
+ghost use Rattle.std.specs.Prelude.{◌≡◌, map, slice_get, IfOk};
+ghost use Rattle.c_machine.specs.Decoded.{operand_of, operand_in, operand_at, code_in, text_in, action_of, call_of, expr_instr};
+
+use crate::names::place;
+use crate::program::{Action, Dest, Instr, Operand};
+use crate::words::{bits_of, byte};
+use c_tree::{CArg, CAtom, CCall, CExpr, Callee, Op};
+use name_table::NameTable;
+use prim_table::Primitive;
+use scheme_data::{List, OutOfMemory, Text};
+use std::alloc::Global;
+
+fn atom(names: &NameTable, a: &CAtom) -> Operand
+    ensures { result ≡ operand_of names.now a.now }
+{
+    match a {
+        CAtom::Int(n) => Operand::Word(bits_of(*n)),
+        CAtom::Name(x) => Operand::Local(place(names, x.as_bytes())),
+        CAtom::False => Operand::Word(3),
+        CAtom::True => Operand::Word(11),
+        CAtom::Nil => Operand::Word(19),
+        CAtom::Unspec => Operand::Word(27),
+        CAtom::Eof => Operand::Word(35),
+    }
+}
+
+fn argument(names: &NameTable, a: &CArg) -> Operand
+    ensures { result ≡ operand_in names.now a.now }
+{
+    match a {
+        CArg::Atom(a) => atom(names, a),
+        CArg::Str(_) => Operand::Word(0),
+    }
+}
+
+fn argument_at(names: &NameTable, args: &List<CArg>, i: u64) -> Operand
+    ensures { result ≡ operand_at names.now args.now i }
+{
+    match args.get(i) {
+        Some(a) => argument(names, a),
+        None => Operand::Word(0),
+    }
+}
+
+fn arguments(
+    alloc: Global,
+    names: &NameTable,
+    args: &List<CArg>,
+) -> Result<List<Operand>, OutOfMemory>
+    ensures { IfOk result (λ operands. operands ≡ map (operand_in names.now) args.now) }
+{
+    let mut operands = List::new(alloc);
+    for a in args.as_slice() {
+        operands.push(argument(names, a))?;
+    }
+    Ok(operands)
+}
+
+fn code_at(args: &List<CArg>) -> u8
+    ensures { result ≡ code_in (slice_get args.now 0) }
+{
+    match args.get(0) {
+        Some(CArg::Atom(CAtom::Int(n))) => byte(*n),
+        _ => 0,
+    }
+}
+
+fn text_at(alloc: Global, args: &List<CArg>) -> Result<Text, OutOfMemory>
+    ensures { IfOk result (λ text. text ≡ text_in (slice_get args.now 1)) }
+{
+    match args.get(1) {
+        Some(CArg::Str(text)) => text.copy(alloc),
+        _ => Ok(Text::new(alloc)),
+    }
+}
+
+fn action(
+    alloc: Global,
+    names: &NameTable,
+    op: Op,
+    args: &List<CArg>,
+) -> Result<Action, OutOfMemory>
+    ensures { IfOk result (λ a. a ≡ action_of names.now op args.now) }
+{
+    match op {
+        Op::BoxLong => Ok(Action::BoxLong(argument_at(names, args, 0))),
+        Op::BoxBool => Ok(Action::BoxBool(argument_at(names, args, 0))),
+        Op::UnboxLong => Ok(Action::UnboxLong(argument_at(names, args, 0))),
+        Op::Truth => Ok(Action::Truth(argument_at(names, args, 0))),
+        Op::Raise => Ok(Action::Raise(code_at(args), text_at(alloc, args)?)),
+        Op::Args => Ok(Action::Args),
+        Op::Status => Ok(Action::Status(argument_at(names, args, 0))),
+        Op::Primitive(Primitive::Add) => Ok(Action::Add(
+            argument_at(names, args, 0),
+            argument_at(names, args, 1),
+        )),
+        Op::Primitive(Primitive::Less) => Ok(Action::Less(
+            argument_at(names, args, 0),
+            argument_at(names, args, 1),
+        )),
+        Op::Primitive(Primitive::Display) => Ok(Action::Display(argument_at(names, args, 0))),
+        Op::Primitive(Primitive::Newline) => Ok(Action::Newline),
+    }
+}
+
+pub fn call(
+    alloc: Global,
+    names: &NameTable,
+    funs: &NameTable,
+    to: Dest,
+    c: &CCall,
+) -> Result<Instr, OutOfMemory>
+    ensures { IfOk result (λ i. i ≡ call_of names.now funs.now to c.now.callee c.now.args) }
+{
+    match &c.callee {
+        Callee::Fun(g) => Ok(Instr::Call(
+            to,
+            place(funs, g.as_bytes()),
+            arguments(alloc, names, &c.args)?,
+        )),
+        Callee::Op(op) => Ok(Instr::Does(to, action(alloc, names, *op, &c.args)?)),
+    }
+}
+
+pub fn expression(
+    alloc: Global,
+    names: &NameTable,
+    funs: &NameTable,
+    to: Dest,
+    e: &CExpr,
+) -> Result<Instr, OutOfMemory>
+    ensures { IfOk result (λ i. i ≡ expr_instr names.now funs.now to e.now) }
+{
+    match e {
+        CExpr::Atom(a) => Ok(Instr::Does(to, Action::Copy(atom(names, a)))),
+        CExpr::Call(c) => call(alloc, names, funs, to, c),
+    }
+}
