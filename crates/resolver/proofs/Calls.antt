@@ -1,5 +1,6 @@
--- Calls and lists of expressions, as far as they were walked.
-use Rattle.std.proofs.Common.{◌≡◌, ℕ, ◌+◌, ◌-◌, ◌<◌, ◌≤◌, List, [], ◌∷◌, ◌++◌, map, length, drop, take, get_or, Option, Some, None, refl, sym, ap, ◌∙◌, arith}
+-- Calls, branches and lists of expressions, as far as they were walked.
+use Rattle.std.proofs.Common.{◌≡◌, ◌≢◌, ℕ, ◌+◌, ◌-◌, ◌<◌, ◌≤◌, List, [], ◌∷◌, ◌++◌, map, length, drop, take, get_or, slice_get, remove, Option, Some, None, Result, IfOk, refl, sym, ap, subst, ◌∙◌, arith}
+use Rattle.std.specs.Option.{option_map}
 use Rattle.std.proofs.lemmas.List.{drop_more, drop_all, map-append}
 use Rattle.scheme_data.specs.Data.{plain, plain_all}
 use Rattle.scheme_data.specs.declared.datum.Place.{Place}
@@ -7,11 +8,11 @@ use Rattle.scheme_data.specs.declared.datum.Datum.{Datum}
 use Rattle.scheme_data.specs.declared.datum.Datum.TheVariants as datum
 use Rattle.core_tree.specs.declared.tree.Node.{Node}
 use Rattle.core_tree.specs.declared.tree.Node.TheVariants as node
-use Rattle.core_tree.specs.Tree.{Tree, Trees, trees, tree, none}
-use Rattle.resolver.specs.Elaboration.{Scope, Operator, count, symbol_of, operator, applied, onto, expression, expressions, non_empty}
+use Rattle.core_tree.specs.Tree.{Tree, If, Trees, trees, tree, none}
+use Rattle.resolver.specs.Elaboration.{Scope, Operator, count, symbol_of, operator, branched, applied, onto, expression, expressions, non_empty}
 use Rattle.resolver.specs.Parts.{node_trees}
 use Rattle.resolver.proofs.TypedNames.{rest_is}
-use Rattle.resolver.proofs.Layers.{plain_list, tree_sequence}
+use Rattle.resolver.proofs.Layers.{plain_list, tree_if, tree_sequence}
 
 -- `args` of `[first, args @ ..]`
 abbrev pub rest_of : List Datum → List Datum
@@ -48,12 +49,33 @@ no_arguments s at ds xs first same l e o =
     sym (call_is s at ds xs first same l e ∙ ap (applied (operator s (length (rest_of xs)) (symbol_of (plain first)))) o
     ∙ applied_none (operator s (length (rest_of xs)) (symbol_of (plain first))))
 
-pub call_tree : (s : Scope) (at : Place) (ds xs : List Datum) (first : Datum) (o : Operator) (ns : List Node) (t : Tree)
+pub form_tree : {E : Type 0} (s : Scope) (at : Place) (ds xs : List Datum) (first : Datum) (o : Operator) (ns : List Node) (r : Result (Option Node) E)
     → xs ≡ ds → 1 ≤ length xs → first ≡ get_or xs 0 first
     → operator s (length (rest_of xs)) (symbol_of (plain first)) ≡ Some o → expressions s (plain_all (rest_of xs)) ≡ Some (node_trees ns)
-    → Some t ≡ applied (Some o) (Some (node_trees ns)) → Some t ≡ expression s (plain (datum.List at ds))
-call_tree s at ds xs first o ns t same l e p a is =
-    is ∙ sym (call_is s at ds xs first same l e ∙ ap (λ o. applied o (expressions s (plain_all (rest_of xs)))) p ∙ ap (applied (Some o)) a)
+    → IfOk r (λ n. option_map tree n ≡ applied (Some o) (Some (node_trees ns))) → IfOk r (λ n. option_map tree n ≡ expression s (plain (datum.List at ds)))
+form_tree s at ds xs first o ns r same l e p a is =
+    subst (λ t. IfOk r (λ n. option_map tree n ≡ t))
+    (sym (call_is s at ds xs first same l e ∙ ap (λ o. applied o (expressions s (plain_all (rest_of xs)))) p ∙ ap (applied (Some o)) a)) is
+
+-- an `if` of parts that were taken from the front
+pub branch_is : (ns ms os : List Node) (a b c : Node) → length ns ≡ 3 → slice_get ns 0 ≡ Some a → ms ≡ remove ns 0 → slice_get ms 0 ≡ Some b
+    → os ≡ remove ms 0 → slice_get os 0 ≡ Some c → Some (tree (node.If a b c)) ≡ branched (node_trees ns)
+branch_is [] ms os a b c l x m y o z = absurd (omega arith)
+branch_is (n ∷ []) ms os a b c l x m y o z = absurd (omega arith)
+branch_is (n ∷ p ∷ []) ms os a b c l x m y o z = absurd (omega arith)
+branch_is (n ∷ p ∷ q ∷ []) ms os a b c l x m y o z =
+    let first : Some p ≡ Some b = ap (λ (ns : List Node). slice_get ns 0) (sym m) ∙ y in
+    let second : Some q ≡ Some c = ap (λ (ns : List Node). slice_get ns 0) (sym (o ∙ ap (λ (ns : List Node). remove ns 0) m)) ∙ z in
+    let same : If (tree a) (tree b) (tree c) ≡ If (tree n) (tree p) (tree q) = cc in
+    ap Some (tree_if a b c ∙ same)
+branch_is (n ∷ p ∷ q ∷ r ∷ ns) ms os a b c l x m y o z = absurd (omega arith)
+
+pub not_three : (ns : List Node) → length ns ≢ 3 → None ≡ branched (node_trees ns)
+not_three [] l = refl
+not_three (a ∷ []) l = refl
+not_three (a ∷ b ∷ []) l = refl
+not_three (a ∷ b ∷ c ∷ []) l = absurd (l (omega arith))
+not_three (a ∷ b ∷ c ∷ d ∷ ns) l = refl
 
 -- Lists of expressions: some trees, and then these.
 

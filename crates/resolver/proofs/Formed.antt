@@ -17,7 +17,7 @@ use Rattle.core_tree.specs.Tree as tree
 use Rattle.core_tree.specs.WellFormed.{AsMany, Defined, same_variable, IsExpression, AreExpressions, IsBody, IsFunction, AreFunctions, IsWellFormed}
 use Rattle.core_tree.specs.WellFormed as formed
 use Rattle.core_tree.specs.declared.tree.VarId.{VarId}
-use Rattle.resolver.specs.Elaboration.{is_word, symbol_of, says, has_type, is_defined_name, are_distinct, count, Scope, place_of, numbered, variable, taking, Operator, Function, Builtins, primitive_operator, global_operator, unless_bound, operator, applied, onto, expression, expressions, non_empty, body, Header, main_clause, headed, header, Definition, names, named, prototype, definition, onto_definitions, definitions, variables, defined, onto_functions, scope_of, functions, function_names, has_main, module_with, module_of, elaborated}
+use Rattle.resolver.specs.Elaboration.{is_word, symbol_of, says, has_type, is_defined_name, are_distinct, count, Scope, place_of, numbered, variable, taking, Operator, Branch, Function, Builtins, primitive_operator, global_operator, unless_bound, unless_if, operator, branched, applied, onto, expression, expressions, non_empty, body, Header, main_clause, headed, header, Definition, names, named, prototype, definition, onto_definitions, definitions, variables, defined, onto_functions, scope_of, functions, function_names, has_main, module_with, module_of, elaborated}
 use Rattle.resolver.proofs.Tables.{and_parts}
 
 -- what holds of the value, where there is one
@@ -60,8 +60,9 @@ is_numbered first (x ∷ xs) (suc n) h =
     ap (λ k. nat_eq k first || list_any (same_variable (record { 0 = k })) (variables (suc first) xs)) same
     ∙ ap (λ b. nat_eq (suc first + n) first || b) (is_numbered (suc first) xs n (omega arith)) ∙ or_true (nat_eq (suc first + n) first)
 
--- what an operator calls is there, and a primitive takes so many arguments
+-- a function that is called is there, and a primitive takes so many arguments
 abbrev Takes : List FunctionTree → ℕ → Operator → Type 0
+Takes fs n Branch = Unit {0}
 Takes fs n (Function k) = Defined (slice_get fs k)
 Takes fs n (Builtins p) = n ≡ length (params_of p)
 
@@ -77,10 +78,18 @@ record AreArguments (fs : List FunctionTree) (ps : List VarId) (n : ℕ) (ts : T
   pub many : tree_count ts ≡ n
   pub each : AreExpressions fs ps ts
 
+branch_formed : (fs : List FunctionTree) (ps : List VarId) (ts : Trees) → AreExpressions fs ps ts → Holds (IsExpression fs ps) (branched ts)
+branch_formed fs ps tree.none h = tt
+branch_formed fs ps (tree.more a tree.none) h = tt
+branch_formed fs ps (tree.more a (tree.more b tree.none)) h = tt
+branch_formed fs ps (tree.more a (tree.more b (tree.more c tree.none))) h = (h.0, h.1.0, h.1.1.0)
+branch_formed fs ps (tree.more a (tree.more b (tree.more c (tree.more d ts)))) h = tt
+
 applied_formed : (fs : List FunctionTree) (ps : List VarId) (n : ℕ) (o : Option Operator) (ts : Option Trees)
     → Holds (Takes fs n) o → Holds (AreArguments fs ps n) ts → Holds (IsExpression fs ps) (applied o ts)
 applied_formed fs ps n None ts h k = tt
 applied_formed fs ps n (Some o) None h k = tt
+applied_formed fs ps n (Some Branch) (Some ts) h k = branch_formed fs ps ts k.each
 applied_formed fs ps n (Some (Function g)) (Some ts) h k = (h, k.each)
 applied_formed fs ps n (Some (Builtins p)) (Some ts) h k = (as_many (params_of p) ts (k.many ∙ h), k.each)
 
@@ -115,13 +124,21 @@ module _ (s : Scope) (fs : List FunctionTree) (same : length fs ≡ length s.fun
           let inside : k < length s.functions = within.0 in
           is_there fs k (omega arith)
 
+  if_formed : (n : ℕ) (name : List ℕ) (p : Option Operator) → Holds (Takes fs n) p → Holds (Takes fs n) (unless_if name p)
+  if_formed n name p h = go (is_word name (codes "if"))
+    where
+      go : (b : Bool) → Holds (Takes fs n) (if b then Some Branch else p)
+      go true = tt
+      go false = h
+
   unless_formed : (n : ℕ) (o : Option ℕ) (p : Option Operator) → Holds (Takes fs n) p → Holds (Takes fs n) (unless_bound o p)
   unless_formed n (Some k) p h = tt
   unless_formed n None p h = h
 
   operator_formed : (n : ℕ) (name : Option (List ℕ)) → Holds (Takes fs n) (operator s n name)
   operator_formed n None = tt
-  operator_formed n (Some name) = unless_formed n (place_of name s.params) (global_operator n name (place_of name s.functions)) (global_formed n name)
+  operator_formed n (Some name) = unless_formed n (place_of name s.params) (unless_if name (global_operator n name (place_of name s.functions)))
+      (if_formed n name (global_operator n name (place_of name s.functions)) (global_formed n name))
 
   mutual
     expression_formed : (d : Plain) → IsProper d → Holds (IsExpression fs params) (expression s d)

@@ -10,7 +10,7 @@ use Rattle.core_tree.specs.declared.tree.Node.{Node}
 use Rattle.core_tree.specs.declared.tree.Node as node_of
 use Rattle.core_tree.specs.declared.tree.Node.TheVariants as node
 use Rattle.core_tree.specs.declared.tree.GlobalRef.{GlobalRef}
-use Rattle.core_tree.specs.Tree.{Sequence, Call, Primitive, trees, tree}
+use Rattle.core_tree.specs.Tree.{If, Sequence, Call, Primitive, trees, tree}
 use Rattle.resolver.specs.Elaboration.{main_clause, header}
 use Rattle.resolver.specs.Parts.{parts_of}
 
@@ -23,6 +23,9 @@ plain_layer at ds = search (rules, data_of.the_lemmas)
 
 pub plain_list : (at : Place) (ds : List Datum) → plain (datum.List at ds) ≡ Listed (plain_all ds)
 plain_list at ds = plain_layer at ds ∙ ap Listed (plains_all ds)
+
+pub tree_if : (a b c : Node) → tree (node.If a b c) ≡ If (tree a) (tree b) (tree c)
+tree_if a b c = search (rules, node_of.the_lemmas)
 
 pub tree_sequence : (ns : List Node) → tree (node.Sequence ns) ≡ Sequence (trees (map tree ns))
 tree_sequence ns = search (rules, node_of.the_lemmas)

@@ -2,13 +2,13 @@
 use Rattle.std.specs.Prelude.{ℕ, suc, ◌+◌, List, [], ◌∷◌, map, position, length, codes, nat_eq, Bool, true, false, not, ◌&&◌, ◌||◌, if◌then◌else◌, Option, Some, None}
 use Rattle.std.specs.List.{list_any}
 use Rattle.std.specs.Cmp.Lexicographic.{pointwise}
-use Rattle.scheme_data.specs.Data.{Plain, Number, Symbol, Listed, Plains, none, more}
+use Rattle.scheme_data.specs.Data.{Plain, Number, Truth, Symbol, Listed, Plains, none, more}
 use Rattle.prim_table.specs.declared.primitives.Primitive.{Primitive as Builtin}
 use Rattle.prim_table.specs.Table.{prim_named, params_of}
-use Rattle.core_tree.specs.declared.tree.Const.TheVariants.{Int}
+use Rattle.core_tree.specs.declared.tree.Const.TheVariants.{Int, Bool as Boolean}
 use Rattle.core_tree.specs.declared.tree.VarId.{VarId}
 use Rattle.core_tree.specs.declared.tree.GlobalRef.TheVariants.{Own}
-use Rattle.core_tree.specs.Tree.{Tree, Constant, Variable, Sequence, Call, Primitive, Trees, FunctionTree, ModuleTree}
+use Rattle.core_tree.specs.Tree.{Tree, Constant, Variable, If, Sequence, Call, Primitive, Trees, FunctionTree, ModuleTree}
 use Rattle.core_tree.specs.Tree as tree
 
 abbrev pub is_word : List ℕ → List ℕ → Bool
@@ -36,7 +36,7 @@ abbrev pub has_type : List ℕ → Bool
 has_type [] = false
 has_type (b ∷ bs) = begins_type (b ∷ bs) || has_type bs
 
--- the primitives of today's forms, and `<`, are neither defined nor bound
+-- the primitives are neither defined nor bound
 abbrev pub is_primitive_name : List ℕ → Bool
 is_primitive_name name = is_word name (codes "+") || (is_word name (codes "<") || (is_word name (codes "display") || is_word name (codes "newline")))
 
@@ -92,8 +92,9 @@ abbrev pub taking : ℕ → Option Builtin → Option Builtin
 taking args None = None
 taking args (Some p) = if nat_eq args (length (params_of p)) then Some p else None
 
--- what is called: a function of the module, or a primitive
+-- what stands first in a form: the word `if`, a function of the module, or a primitive
 pub data Operator : Type 0 where
+  Branch : Operator
   Function : ℕ → Operator
   Builtins : Builtin → Operator
 
@@ -109,14 +110,23 @@ abbrev pub unless_bound : Option ℕ → Option Operator → Option Operator
 unless_bound (Some n) o = None
 unless_bound None o = o
 
--- the operator of a name: no parameter, and first the functions, then the primitives
+abbrev pub unless_if : List ℕ → Option Operator → Option Operator
+unless_if name o = if is_word name (codes "if") then Some Branch else o
+
+-- the operator of a name: no parameter, and first `if`, then the functions, then the primitives
 abbrev pub operator : Scope → ℕ → Option (List ℕ) → Option Operator
 operator scope args None = None
-operator scope args (Some name) = unless_bound (place_of name scope.params) (global_operator args name (place_of name scope.functions))
+operator scope args (Some name) = unless_bound (place_of name scope.params) (unless_if name (global_operator args name (place_of name scope.functions)))
+
+-- an `if` has three parts
+abbrev pub branched : Trees → Option Tree
+branched (tree.more a (tree.more b (tree.more c tree.none))) = Some (If a b c)
+branched _ = None
 
 abbrev pub applied : Option Operator → Option Trees → Option Tree
 applied None ts = None
 applied (Some o) None = None
+applied (Some Branch) (Some ts) = branched ts
 applied (Some (Function n)) (Some ts) = Some (Call (Own n) ts)
 applied (Some (Builtins p)) (Some ts) = Some (Primitive p ts)
 
@@ -126,10 +136,11 @@ onto (Some t) None = None
 onto (Some t) (Some ts) = Some (tree.more t ts)
 
 module _ (scope : Scope) where
-  -- a number, a parameter, or a call by name; no other constant is one yet
+  -- a number or a truth value, a parameter, an `if`, or a call by name; no other constant is one yet
   abbrev mutual
     pub expression : Plain → Option Tree
     expression (Number n) = Some (Constant (Int n))
+    expression (Truth b) = Some (Constant (Boolean b))
     expression (Symbol name mark) = variable scope (Some name)
     expression (Listed none) = None
     expression (Listed (more d ds)) = applied (operator scope (count ds) (symbol_of d)) (expressions ds)

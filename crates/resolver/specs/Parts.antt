@@ -30,6 +30,7 @@ abbrev pub scope_of : Scope → plain.Scope
 scope_of s = record { functions = s.functions.now; params = s.params.now; first = s.first; in_main = s.in_main }
 
 abbrev pub operator_of : Operator → plain.Operator
+operator_of operator.Branch = plain.Branch
 operator_of (operator.Function n) = plain.Function n
 operator_of (operator.Builtin p) = plain.Builtins p
 

@@ -3,15 +3,16 @@ ghost use Rattle.std.specs.Option.{option_map};
 ghost use Rattle.scheme_data.specs.Data.{plain, plain_all};
 ghost use Rattle.prim_table.specs.Table.{params_of, prim_named};
 ghost use Rattle.core_tree.specs.Tree.{tree};
-ghost use Rattle.resolver.specs.Elaboration.{symbol_of, place_of, taking, variable, global_operator, operator, applied, expression, expressions, non_empty, body};
+ghost use Rattle.resolver.specs.Elaboration.{symbol_of, place_of, taking, variable, global_operator, operator, branched, applied, expression, expressions, non_empty, body};
 ghost use Rattle.resolver.specs.Parts.{node_trees, scope_of, operator_of};
 
+use crate::names::name_is;
 use crate::shapes::symbol;
 use core_tree::{Const, GlobalRef, Node, VarId};
 use name_table::NameTable;
 use prim_table::{Primitive, prim_by_name};
 use scheme_data::{Datum, OutOfMemory};
-use sqlite_items::Items;
+use sqlite_items::{Boxed, Items};
 use std::alloc::Global;
 
 /// What a function's expressions see: the functions of the module, the function's parameters, the number of the first of these, and whether it is the main function.
@@ -24,9 +25,10 @@ pub struct Scope<'a> {
     pub in_main: bool,
 }
 
-/// What is called: a function of the module, by its number, or a primitive.
+/// What stands first in a form: the word `if`, a function of the module, by its number, or a primitive.
 #[derive(Clone, Copy, Debug)]
 pub enum Operator {
+    Branch,
     Function(u32),
     Builtin(Primitive),
 }
@@ -44,7 +46,7 @@ fn arity(p: Primitive) -> usize
     ensures { result ≡ length (params_of p) }
 {
     match p {
-        Primitive::Add => 2,
+        Primitive::Add | Primitive::Less => 2,
         Primitive::Display => 1,
         Primitive::Newline => 0,
     }
@@ -58,12 +60,31 @@ fn primitive(name: &[u8], args: usize) -> Option<Primitive>
     if args == arity(p) { Some(p) } else { None }
 }
 
-fn call_of(operator: Operator, args: Items<Node>) -> Node
-    ensures { Some (tree result) ≡ applied (Some (operator_of operator)) (Some (node_trees args)) }
+/// The `if` of these parts; none where they aren't three.
+fn branch(alloc: Global, mut parts: Items<Node>) -> Result<Option<Node>, OutOfMemory>
+    ensures { IfOk result (λ n. option_map tree n ≡ branched (node_trees parts)) }
+{
+    if parts.len() != 3 {
+        return Ok(None);
+    }
+    let test = Boxed::new(alloc, parts.remove(0))?;
+    let first = Boxed::new(alloc, parts.remove(0))?;
+    let second = Boxed::new(alloc, parts.remove(0))?;
+    Ok(Some(Node::If(test, first, second)))
+}
+
+/// The tree of a form with this operator and these parts; none for an `if` of other than three.
+fn form_of(
+    alloc: Global,
+    operator: Operator,
+    parts: Items<Node>,
+) -> Result<Option<Node>, OutOfMemory>
+    ensures { IfOk result (λ n. option_map tree n ≡ applied (Some (operator_of operator)) (Some (node_trees parts))) }
 {
     match operator {
-        Operator::Function(n) => Node::Call(GlobalRef::Own(n), args),
-        Operator::Builtin(p) => Node::Primitive(p, args),
+        Operator::Branch => branch(alloc, parts),
+        Operator::Function(n) => Ok(Some(Node::Call(GlobalRef::Own(n), parts))),
+        Operator::Builtin(p) => Ok(Some(Node::Primitive(p, parts))),
     }
 }
 
@@ -92,7 +113,7 @@ impl<'a> Scope<'a> {
         Ok(Some(Node::Variable(VarId(number))))
     }
 
-    /// What a name calls that is no parameter: first the functions, then the primitives.
+    /// What a name calls that is neither a parameter nor `if`: first the functions, then the primitives.
     fn global(&self, name: &[u8], args: usize) -> Result<Option<Operator>, OutOfMemory>
         ensures { IfOk result (λ o. option_map operator_of o ≡ global_operator args name.now (place_of name.now self.now.functions.now)) }
     {
@@ -102,7 +123,7 @@ impl<'a> Scope<'a> {
         Ok(Some(Operator::Function(number_after(0, place)?)))
     }
 
-    /// What a call with so many arguments calls.
+    /// What stands first in a form with so many parts after it; none where a parameter does.
     fn operator(&self, d: &Datum, args: usize) -> Result<Option<Operator>, OutOfMemory>
         ensures { IfOk result (λ o. option_map operator_of o ≡ operator (scope_of self.now) args (symbol_of (plain d.now))) }
     {
@@ -111,6 +132,9 @@ impl<'a> Scope<'a> {
         };
         if self.params.position(name.as_bytes()).is_some() {
             return Ok(None);
+        }
+        if name_is(name.as_bytes(), b"if") {
+            return Ok(Some(Operator::Branch));
         }
         self.global(name.as_bytes(), args)
     }
@@ -122,6 +146,7 @@ impl<'a> Scope<'a> {
     {
         match d {
             Datum::Int(_, n) => Ok(Some(Node::Constant(Const::Int(*n)))),
+            Datum::Bool(_, b) => Ok(Some(Node::Constant(Const::Bool(*b)))),
             Datum::Sym(_, name, _) => self.variable(name.as_bytes()),
             Datum::List(_, ds) => {
                 let [first, args @ ..] = ds.as_slice() else {
@@ -133,7 +158,7 @@ impl<'a> Scope<'a> {
                 let Some(nodes) = self.expressions(args)? else {
                     return Ok(None);
                 };
-                Ok(Some(call_of(operator, nodes)))
+                form_of(self.alloc, operator, nodes)
             }
             _ => Ok(None),
         }

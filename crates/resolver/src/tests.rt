@@ -85,25 +85,62 @@ fn other_bodies_are_refused(rt: HostRuntime) -> Result<(), ReadErr> {
         b"(display)".as_slice(),
         b"(newline 1)".as_slice(),
         b"()".as_slice(),
-        b"(< 1 2)".as_slice(),
-        b"#t".as_slice(),
+        b"(< 1)".as_slice(),
+        b"(< 1 2 3)".as_slice(),
+        b"if".as_slice(),
+        b"(if)".as_slice(),
+        b"(if #t 1)".as_slice(),
+        b"(if #t 1 2 3)".as_slice(),
+        b"(if y 1 2)".as_slice(),
+        b"(if #t y 2)".as_slice(),
+        b"(if #t 1 y)".as_slice(),
+        b"(if #t 1 (if #f 2))".as_slice(),
         b"#unspecified".as_slice(),
         b"#\\a".as_slice(),
         b"\"a\"".as_slice(),
         b"#(1)".as_slice(),
         b"(f . 1)".as_slice(),
-        b"(display #f)".as_slice(),
     ] {
         assert!(rt; !body_builds(&rt, body)?);
     }
+    Ok(())
+}
+
+#[test]
+fn bodies_are_built(rt: HostRuntime) -> Result<(), ReadErr> {
     for body in [
         b"x".as_slice(),
         b"f".as_slice(),
         b"(display f)".as_slice(),
-        b"(h x) (g f x)",
+        b"(h x) (g f x)".as_slice(),
+        b"#t".as_slice(),
+        b"(display #f)".as_slice(),
+        b"(< 1 2)".as_slice(),
+        b"(if x 1 2)".as_slice(),
+        b"(if (< 1 2) (display #t) (newline))".as_slice(),
+        b"(if (if x #t #f) (if f 1 (if 2 3 4)) (g x (if 1 2 3)))".as_slice(),
     ] {
         assert!(rt; body_builds(&rt, body)?);
     }
+    Ok(())
+}
+
+/// Whether this is a body of `g`, whose parameter is `if`.
+fn body_below_if_builds(rt: &HostRuntime, body: &[u8]) -> Result<bool, ReadErr> {
+    let mut text = Text::from_bytes(
+        rt.alloc(),
+        b"(module m (main f)) (define (f a) 1) (define (g if) ",
+    )?;
+    text.extend(body)?;
+    text.extend(b")")?;
+    builds(rt, text.as_bytes())
+}
+
+#[test]
+fn a_parameter_hides_if(rt: HostRuntime) -> Result<(), ReadErr> {
+    assert!(rt; body_below_if_builds(&rt, b"if")?);
+    assert!(rt; body_below_if_builds(&rt, b"(display if)")?);
+    assert!(rt; !body_below_if_builds(&rt, b"(if 1 2 3)")?);
     Ok(())
 }
 

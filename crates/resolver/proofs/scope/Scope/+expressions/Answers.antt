@@ -2,7 +2,7 @@ use Rattle.std.proofs.Common.{ap, sym, ◌∙◌, arith}
 use Rattle.std.specs.Option.{option_map}
 use Rattle.core_tree.specs.Tree.{tree}
 use Rattle.resolver.specs.Parts.{node_trees, scope_of, operator_of}
-use Rattle.resolver.proofs.Calls.{no_operator, no_arguments, call_tree, so_far_not, so_far_more, so_far_end}
+use Rattle.resolver.proofs.Calls.{no_operator, no_arguments, form_tree, so_far_not, so_far_more, so_far_end}
 use Rattle.resolver.proofs.scope.Scope.+expressions.Goals as goal
 
 pub expression-returns-in_default-2 : goal.expression-returns-in_default-2
@@ -17,10 +17,10 @@ expression-returns-in_default-3 t c =
 
 pub expression-returns-in-Some-2 : goal.expression-returns-in-Some-2
 expression-returns-in-Some-2 t c =
-    rw c.in-List.is (call_tree (scope_of c.args.self.now) c.in-List.field-0 c.in-List.ds _ _ (operator_of c.in-Some.operator) c.in-Some-2.nodes _
+    rw c.in-List.is (form_tree (scope_of c.args.self.now) c.in-List.field-0 c.in-List.ds _ _ (operator_of c.in-Some.operator) c.in-Some-2.nodes _
     c.as_slice.ensures c.in-len1-up.len_at_least c.first-item.is
     (sym c.in_ok-operator-in-List.ensures ∙ ap (option_map operator_of) c.in-Some.is)
-    (sym c.in_ok-nodes-in-List.ensures ∙ ap (option_map node_trees) c.in-Some-2.is) c.call_of.ensures)
+    (sym c.in_ok-nodes-in-List.ensures ∙ ap (option_map node_trees) c.in-Some-2.is) c.form_of.ensures)
 
 pub expressions-returns-in_default : goal.expressions-returns-in_default
 expressions-returns-in_default t c =

@@ -1,0 +1,13 @@
+use Rattle.std.proofs.Common.{Some, ap, sym, ◌∙◌, arith}
+use Rattle.resolver.proofs.Calls.{not_three, branch_is}
+use Rattle.resolver.proofs.scope.branch.Goals as goal
+
+pub returns-then-len-ne3 : goal.returns-then-len-ne3
+returns-then-len-ne3 c = not_three c.args.parts (λ e. omega arith)
+
+pub returns : goal.returns
+returns c =
+    branch_is c.args.parts c.remove.new.self c.remove-2.new.self _ _ _ (omega arith)
+    (c.remove.ensures.item ∙ ap Some (sym c.in_ok-test.ensures)) c.remove.ensures.rest
+    (c.remove-2.ensures.item ∙ ap Some (sym c.in_ok-first.ensures)) c.remove-2.ensures.rest
+    (c.remove-3.ensures.item ∙ ap Some (sym c.in_ok-second.ensures))
