@@ -26,10 +26,6 @@ pub below_one : (n k : ℕ) (xs : List Name) → k < n → AreBelow n xs → Are
 unfolding AreBelow
 below_one n k xs lt h = ((k, lt, refl), h)
 
-pub below_cons : (n : ℕ) (x : Name) (xs : List Name) → AreBelow n (x ∷ []) → AreBelow n xs → AreBelow n (x ∷ xs)
-unfolding AreBelow
-below_cons n x xs one h = (one.0, h)
-
 pub below_append : (n : ℕ) (xs ys : List Name) → AreBelow n xs → AreBelow n ys → AreBelow n (xs ++ ys)
 unfolding AreBelow
 below_append n [] ys h g = g

@@ -3,7 +3,7 @@ use Rattle.std.proofs.Common.{◌≡◌, ℕ, zero, suc, ◌<◌, List, [], ◌�
 use Rattle.std.specs.Prelude.{not, ◌&&◌, ◌||◌, IsTrue, cond, slice_get, nat_eq}
 use Rattle.std.specs.List.{list_all, list_any}
 use Rattle.std.specs.Cmp.Lexicographic.{pointwise}
-use Rattle.std.proofs.lemmas.Bool.{and_from}
+use Rattle.std.proofs.lemmas.Bool.{and_from, and_parts}
 use Rattle.std.proofs.lemmas.Bool.Decides.{nat_tests}
 use Rattle.scheme_data.specs.Symbols.{is_symbol_byte, IsName}
 use Rattle.core_tree.specs.declared.tree.GlobalRef.{GlobalRef}
@@ -93,14 +93,10 @@ in_names m (g ∷ gs) f h = elim h [
 any_here : (fs : List FunctionTree) (x : Name) (h : FunctionTree) → Has h fs → x ≡ h.name → list_any (pointwise nat_eq x) (map (λ f. f.name) fs) ≡ true
 any_here fs x h has e = sym (any_name [] x fs) ∙ ap (λ y. list_any (is_same (function_name [] y)) (names_of [] fs)) e ∙ has_name [] fs h has
 
-both : (a b : Bool) → (a && b) ≡ true → (a ≡ true) × (b ≡ true)
-both true b e = (refl, e)
-both false b e = absurd (cc)
-
 pub same_function : (fs : List FunctionTree) (f h : FunctionTree) → formed.are_distinct (map (λ f. f.name) fs) ≡ true → Has f fs → Has h fs → f.name ≡ h.name → f ≡ h
 same_function [] f h d a b e = absurd a
 same_function (g ∷ gs) f h d a b e =
-    let parts = both (not (list_any (pointwise nat_eq g.name) (map (λ f. f.name) gs))) (formed.are_distinct (map (λ f. f.name) gs)) d in
+    let parts = and_parts (not (list_any (pointwise nat_eq g.name) (map (λ f. f.name) gs))) (formed.are_distinct (map (λ f. f.name) gs)) d in
     elim a [
       | inl p ↦ elim b [
         | inl q ↦ p ∙ sym q
@@ -121,8 +117,8 @@ symbol_small b e = grind (arith, nat_tests)
 
 symbols_are_bytes : (bs : List ℕ) → list_all is_symbol_byte bs ≡ true → AreBytes bs
 symbols_are_bytes [] e i = omega arith
-symbols_are_bytes (b ∷ bs) e zero = symbol_small b (both (is_symbol_byte b) (list_all is_symbol_byte bs) e).0
-symbols_are_bytes (b ∷ bs) e (suc i) = symbols_are_bytes bs (both (is_symbol_byte b) (list_all is_symbol_byte bs) e).1 i
+symbols_are_bytes (b ∷ bs) e zero = symbol_small b (and_parts (is_symbol_byte b) (list_all is_symbol_byte bs) e).0
+symbols_are_bytes (b ∷ bs) e (suc i) = symbols_are_bytes bs (and_parts (is_symbol_byte b) (list_all is_symbol_byte bs) e).1 i
 
 pub named_function : (m n : Name) → IsName m → IsName n → IsTrue (is_function_name (function_name m n))
 named_function m n of_module of_function =

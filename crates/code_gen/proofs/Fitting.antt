@@ -1,46 +1,48 @@
 -- Arguments that were evaluated are made to fit.
-use Rattle.std.proofs.Common.{◌≡◌, ℕ, suc, ◌+◌, ◌<◌, ◌≤◌, List, [], ◌∷◌, ◌++◌, length, map, drop, get_or, Some, None, refl, sym, ap, ◌∙◌, subst, arith, append_assoc, add-one}
+use Rattle.std.proofs.Common.{◌≡◌, ℕ, zero, suc, ◌+◌, ◌<◌, ◌≤◌, List, [], ◌∷◌, ◌++◌, length, map, drop, get_or, refl, sym, ap, ◌∙◌, subst, arith, append_assoc, add-one}
 use Rattle.std.proofs.Math.Seq.{drop-cons}
+use Rattle.std.proofs.lemmas.Bool.{and_parts}
 use Rattle.std.proofs.lemmas.List.{map-append, append-nil, drop_all}
+use Rattle.std.specs.Prelude.{true, pos}
+use Rattle.std.specs.List.{list_all}
 use Rattle.prim_table.specs.declared.primitives.Ty.{Ty}
+use Rattle.prim_table.specs.declared.primitives.Ty.TheVariants as ty
+use Rattle.prim_table.specs.declared.primitives.Primitive.{Primitive as Builtin}
+use Rattle.prim_table.specs.declared.primitives.Primitive.TheVariants as builtin
+use Rattle.prim_table.specs.Table.{params_of, is_parameter_type}
+use Rattle.core_tree.specs.declared.tree.Node.{Node}
 use Rattle.c_tree.specs.declared.op.Op.{Op}
+use Rattle.c_tree.specs.declared.tree.CAtom.TheVariants as atom
+use Rattle.c_tree.specs.declared.tree.CCall.{CCall}
 use Rattle.c_tree.specs.declared.tree.CExpr.{CExpr}
 use Rattle.c_tree.specs.declared.tree.CExpr.TheVariants as expr
 use Rattle.c_tree.specs.declared.tree.CVar.{CVar}
-use Rattle.c_tree.specs.Code.{Code, assign}
+use Rattle.c_tree.specs.declared.pieces.Piece.TheVariants as piece
+use Rattle.c_tree.specs.Code.{Code, assign, call}
 use Rattle.c_tree.specs.Names.{local_name}
 use Rattle.plan_rules.specs.declared.rep.Rep.{Rep}
-use Rattle.plan_rules.specs.Representation.{rep_of, c_type_of, operation, local, Step, Keep, Make, step}
-use Rattle.plan_rules.specs.Translation.{Name, Fresh, IsLocal, Fits, AllFit}
+use Rattle.plan_rules.specs.Representation.{rep_of, c_type_of, operation, local, raise_type, Keep, Make, Refuse, step}
+use Rattle.plan_rules.specs.Translation.{Name, IsLocal, Fits, Refused, AllFit}
 use Rattle.code_gen.specs.declared.emitter.Emitter.{Emitter}
 use Rattle.code_gen.specs.declared.emitter.Held.{Held}
-use Rattle.code_gen.specs.Emission.{op_of, coercion_of, held_names, AreBelow, Emits, Stores, IsFitted, AreFitted}
+use Rattle.code_gen.specs.Emission.{held_names, AreParameters, AreBelow, Emits, Puts, Stores, IsRefused, IsFitted, AreFitted}
 use Rattle.code_gen.proofs.Counts.{below_none, below_more, below_append, below_one, fresh_at, pushed, pushed-snoc, below_pushed}
-use Rattle.code_gen.proofs.Steps.{same, then, weaker}
+use Rattle.code_gen.proofs.Steps.{same, then, weaker, call_emits}
 
 -- One argument ------------------------------------------------------------------------------
 
-keeps : (vars : List CVar) (t : Ty) (st : Step) (live : List Name) (y : Name) (code rest : Code) → None ≡ op_of st → code ≡ rest → Fits vars t st live y code y rest
-keeps vars t Keep live y code rest none e = (e, refl)
-keeps vars t (Make o) live y code rest none e = absurd (cc)
+pub fit_kept : (s : Emitter) (t : Ty) (h : Held) → AreBelow s.next (local_name h.local ∷ []) → Keep ≡ step t h.rep → IsFitted s s t h h.local
+fit_kept s t h below keeps =
+    let y = local_name h.local in
+    record {
+      below = below;
+      emits = weaker s s (λ vars code rest. code ≡ rest) (λ vars code rest. (live : List Name) → AreBelow s.next live → Fits vars t (step t h.rep) live y code y rest)
+          (same s) (λ vars code rest e live b. subst (λ st. Fits vars t st live y code y rest) keeps (e, refl));
+    }
 
-makes : (vars : List CVar) (t : Ty) (st : Step) (o : Op) (live : List Name) (y x : Name) (code rest : Code) → Some o ≡ op_of st
-    → Fresh x live → IsLocal vars x (c_type_of (rep_of t)) → code ≡ assign x (expr.Call (operation o (local y ∷ []))) rest → Fits vars t st live y code x rest
-makes vars t Keep o live y x code rest some fresh is_local e = absurd (cc)
-makes vars t (Make p) o live y x code rest some fresh is_local e =
-    let same_op : o ≡ p = cc in
-    record { fresh = fresh; is_local = is_local; is = e ∙ ap (λ q. assign x (expr.Call (operation q (local y ∷ []))) rest) same_op }
-
-pub fit_kept : (s : Emitter) (t : Ty) (h : Held) → AreBelow s.next (local_name h.local ∷ []) → None ≡ coercion_of t h.rep → IsFitted s s t h h.local
-fit_kept s t h below none = record {
-  below = below;
-  emits = weaker s s (λ vars code rest. code ≡ rest) (λ vars code rest. (live : List Name) → AreBelow s.next live → Fits vars t (step t h.rep) live (local_name h.local) code (local_name h.local) rest)
-      (same s) (λ vars code rest e live b. keeps vars t (step t h.rep) live (local_name h.local) code rest none e);
-}
-
-pub fit_made : (s u : Emitter) (t : Ty) (h : Held) (o : Op) (r : Rep) (made : Held) (e : CExpr) → Some o ≡ coercion_of t h.rep → r ≡ rep_of t
+pub fit_made : (s u : Emitter) (t : Ty) (h : Held) (o : Op) (r : Rep) (made : Held) (e : CExpr) → Make o ≡ step t h.rep → r ≡ rep_of t
     → e ≡ expr.Call (operation o (local (local_name h.local) ∷ [])) → Stores s u r e made → IsFitted s u t h made.local
-fit_made s u t h o r made e some r_is e_is stored =
+fit_made s u t h o r made e makes r_is e_is stored =
     let x = local_name made.local in
     let next : u.next ≡ suc made.local = stored.next_is in
     record {
@@ -50,11 +52,56 @@ fit_made s u t h o r made e some r_is e_is stored =
           (λ vars code rest. (live : List Name) → AreBelow s.next live → Fits vars t (step t h.rep) live (local_name h.local) code x rest)
           stored.emits
           (λ vars code rest p live b.
-          makes vars t (step t h.rep) o live (local_name h.local) x code rest some
-          (fresh_at s.next made.local live (let n : made.local ≡ s.next = stored.number in omega arith) stored.small b)
-          (subst (λ k. IsLocal vars x (c_type_of k)) r_is p.1)
-          (p.0 ∙ ap (λ f. assign x f rest) e_is));
+          subst (λ st. Fits vars t st live (local_name h.local) code x rest) makes
+          (record {
+            fresh = fresh_at s.next made.local live (let n : made.local ≡ s.next = stored.number in omega arith) stored.small b;
+            is_local = subst (λ k. IsLocal vars x (c_type_of k)) r_is p.1;
+            is = p.0 ∙ ap (λ f. assign x f rest) e_is;
+          }));
     }
+
+pub is_refused : (s t u : Emitter) (type : Ty) (c : CCall) (r : Rep) (e : CExpr) (made : Held) → c ≡ raise_type type → Puts s t (piece.Call c) → r ≡ rep_of type
+    → e ≡ expr.Atom (atom.Int (pos 0)) → Stores t u r e made → IsRefused s u type made.local
+is_refused s t u type c r e made c_is puts r_is e_is stored =
+    let x = local_name made.local in
+    let next : u.next ≡ suc made.local = stored.next_is in
+    let first : made.local ≡ s.next = stored.number ∙ puts.next_is in
+    record {
+      below = omega arith;
+      emits = then s t u (λ vars code rest. code ≡ call c rest) (λ vars code rest. (code ≡ assign x e rest) × IsLocal vars x (c_type_of r))
+          (λ vars code rest. (live : List Name) → AreBelow s.next live → Refused vars type live code x rest) (call_emits s t c puts) stored.emits
+          (λ vars code middle rest p q live b. record {
+            fresh = fresh_at s.next made.local live (omega arith) stored.small b;
+            is_local = subst (λ k. IsLocal vars x (c_type_of k)) r_is q.1;
+            is = p ∙ ap (call c) (q.0 ∙ ap (λ f. assign x f rest) e_is) ∙ ap (λ d. call d (assign x (expr.Atom (atom.Int (pos 0))) rest)) c_is;
+          });
+    }
+
+pub fit_refused : (s u : Emitter) (t : Ty) (h : Held) (made : ℕ) → Refuse ≡ step t h.rep → IsRefused s u t made → IsFitted s u t h made
+fit_refused s u t h made refuses refused =
+    let x = local_name made in
+    record {
+      below = below_one u.next made [] refused.below (below_none u.next);
+      emits = weaker s u (λ vars code rest. (live : List Name) → AreBelow s.next live → Refused vars t live code x rest)
+          (λ vars code rest. (live : List Name) → AreBelow s.next live → Fits vars t (step t h.rep) live (local_name h.local) code x rest)
+          refused.emits (λ vars code rest p live b. subst (λ st. Fits vars t st live (local_name h.local) code x rest) refuses (p live b));
+    }
+
+-- types of parameters, one by one
+pub parameter_at : (types : List Ty) (i : ℕ) (d : Ty) → i < length types → list_all is_parameter_type types ≡ true → is_parameter_type (get_or types i d) ≡ true
+parameter_at [] i d within all = absurd (omega arith)
+parameter_at (t ∷ ts) zero d within all = (and_parts (is_parameter_type t) (list_all is_parameter_type ts) all).0
+parameter_at (t ∷ ts) (suc i) d within all = parameter_at ts i d (omega arith) (and_parts (is_parameter_type t) (list_all is_parameter_type ts) all).1
+
+pub primitive_parameters : (p : Builtin) → AreParameters (params_of p)
+primitive_parameters builtin.Add = refl
+primitive_parameters builtin.Less = refl
+primitive_parameters builtin.Display = refl
+primitive_parameters builtin.Newline = refl
+
+pub object_parameters : (ns : List Node) → AreParameters (map (λ _. ty.Obj) ns)
+object_parameters [] = refl
+object_parameters (n ∷ ns) = object_parameters ns
 
 -- All of them -------------------------------------------------------------------------------
 
@@ -96,8 +143,8 @@ fitting_one s e g types held made i x d k as_many within so one after after_is =
     let t = get_or types i d in
     let h = get_or held i k in
     let names : map local_name (made ++ x ∷ []) ≡ map local_name made ++ local_name x ∷ [] = map-append local_name made (x ∷ []) in
-    let later : e.next ≤ g.next = one.emits.later in
-    let started : s.next ≤ e.next = so.emits.later in
+    let later : e.next ≤ g.next = one.emits.grows.later in
+    let started : s.next ≤ e.next = so.emits.grows.later in
     let first_types : drop i types ≡ t ∷ drop (suc i) types = drop-cons types i d (omega arith) in
     let first_held : drop i held ≡ h ∷ drop (suc i) held = drop-cons held i k within in
     rw (after_is, add-one i) (record {

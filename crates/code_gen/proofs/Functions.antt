@@ -2,14 +2,17 @@
 use Rattle.std.proofs.Common.{◌≡◌, ℕ, suc, ◌+◌, ◌≤◌, ◌^◌, Bool, true, false, List, [], ◌∷◌, ◌++◌, length, map, Option, Some, refl, sym, ap, ◌∙◌, subst, arith}
 use Rattle.std.specs.Prelude.{if◌then◌else◌, IsTrue}
 use Rattle.std.proofs.lemmas.Bool.{and_from}
+use Rattle.std.proofs.lemmas.List.{append-nil}
 use Rattle.core_tree.specs.declared.tree.VarId.{VarId}
-use Rattle.core_tree.specs.Tree.{Tree, Constant, Variable, Sequence, Call, Primitive, none, more, FunctionTree, ModuleTree}
+use Rattle.core_tree.specs.Tree.{Tree, Constant, Variable, If, Sequence, Call, Primitive, none, more, FunctionTree, ModuleTree}
 use Rattle.core_tree.specs.WellFormed.{same_variable, IsFunction, IsWellFormed}
 use Rattle.c_tree.specs.declared.tree.CTy.TheVariants as c_ty
 use Rattle.c_tree.specs.declared.tree.CVar.{CVar}
-use Rattle.c_tree.specs.Code.{Code, done, loop, onto, Fun, defined}
-use Rattle.c_tree.specs.Names.{local_name, label_name, function_name, is_label_name, is_function_name, is_main}
-use Rattle.c_tree.specs.Spelling.{NamedVars, NamedBody, NamedCode, NamedItem}
+use Rattle.c_tree.specs.declared.pieces.Piece.TheVariants as piece
+use Rattle.c_tree.specs.Code.{Code, done, loop, Fun, defined}
+use Rattle.c_tree.specs.Names.{local_name, label_name, function_name, is_function_name, is_main}
+use Rattle.c_tree.specs.Pieces.{pieces}
+use Rattle.c_tree.specs.Spelling.{NamedVars, NamedCode, NamedItem}
 use Rattle.c_tree.proofs.NameShapes.{function_name_not_main, is_label_name-label_name}
 use Rattle.c_meaning.specs.Checked.{Signature, signature_of, variables_of, are_distinct, code_fits, is_looped, is_main_function, function_fits}
 use Rattle.plan_rules.specs.declared.rep.Rep.{Rep}
@@ -19,8 +22,9 @@ use Rattle.plan_rules.specs.Translation.{Name, IsLocal, back, scope_of, Tr, TrFu
 use Rattle.code_gen.specs.declared.emitter.Emitter.{Emitter}
 use Rattle.code_gen.specs.Scopes.{words, scope_from}
 use Rattle.code_gen.specs.Settings.{Setting, IsBodyIn, TrIn}
-use Rattle.code_gen.specs.Emission.{AreBelow, AreCounted, AreLocals, IsFresh, IsBodyOf, setting_of, word_names, IsFunctionOf}
+use Rattle.code_gen.specs.Emission.{AreBelow, AreCounted, AreLocals, IsFresh, Puts, Grows, IsBodyOf, setting_of, word_names, variables_with, IsLooped, IsFunctionOf}
 use Rattle.code_gen.proofs.Counts.{below_none, below_one}
+use Rattle.code_gen.proofs.Steps.{grows_then, put_grows, put_front}
 use Rattle.code_gen.proofs.Variables.{counted_distinct, counted_locals, counted_named, local_named}
 use Rattle.code_gen.proofs.Soundness.{signature, Grounds, Fine, fine_done, fine_last}
 use Rattle.code_gen.proofs.Declared.{Within, called, is_function, named_function, signed}
@@ -54,47 +58,15 @@ unfolding AreLocals
 scoped vars n [] l x r y e = absurd (cc)
 scoped vars n (p ∷ ps) l x r y e = scoped_at (same_variable x p) vars n (slot_of x (scope_from (suc n) ps)) r y l.0 (scoped vars (suc n) ps l.1 x r y) e
 
--- The function ------------------------------------------------------------------------------
-
-none_counted : (s : Emitter) (first : ℕ) → s.locals ≡ [] → s.next ≡ first → AreCounted s.locals first s.next
-unfolding AreCounted
-none_counted s first e f =
-    let A : List CVar → ℕ → Type 0 = λ vs n. AreCounted vs first n in
-    subst (λ vs. A vs s.next) (sym e) (subst (A []) (sym f) refl)
-
-pub function_written : (m : ModuleTree) (f : FunctionTree) (s e : Emitter) (g : Fun) → IsFresh s (length f.params) → length f.params ≤ 2 ^ 32 → IsBodyOf (setting_of m f) s e f.body
-    → g.name ≡ function_name m.name f.name → g.result ≡ c_ty.Obj → g.params ≡ words 0 f.params → g.locals ≡ e.locals → g.code ≡ loop (label_name 0) (onto e.stmts done) done → IsFunctionOf m f g
-function_written m f s e g fresh few all name_is result params locals code_is =
-    let first : s.next ≡ length f.params = fresh.next_is in
-    record {
-      name_is = name_is;
-      result = result;
-      params = params;
-      last = e.next;
-      small = all.emits.small (omega arith);
-      counted = subst (λ vs. AreCounted vs (length f.params) e.next) (sym locals) (all.emits.counted (length f.params) (none_counted s (length f.params) fresh.locals first));
-      code = onto e.stmts done;
-      looped = code_is;
-      translated = λ l.
-          let vars = variables_of g in
-          let w = all.emits.code vars (subst (AreLocals vars) locals l) done in
-          let below : AreBelow s.next (word_names f.params) = words_below 0 s.next f.params (omega arith) in
-          subst (λ c. TrIn (setting_of m f) vars f.body Obj (word_names f.params) back c done) (sym (w.is ∙ ap (λ ss. onto ss w.code) fresh.stmts)) (w.meant (word_names f.params) below);
-    }
-
-pub setting_same : (m : ModuleTree) (f : FunctionTree) (functions : List FunctionTree) (params : List VarId) → functions ≡ m.functions → params ≡ f.params
-    → ◌≡◌ {A = Setting} (record { module_name = m.name; functions = functions; params = params }) (setting_of m f)
-setting_same m f functions params e g = cc
-
 -- Its variables -----------------------------------------------------------------------------
 
-record HasVariables (f : FunctionTree) (g : Fun) : Type 0 where
-  distinct : are_distinct (map (λ v. v.name) (variables_of g)) ≡ true
-  all_named : NamedVars (variables_of g)
-  params_named : NamedVars g.params
-  locals_named : NamedVars g.locals
-  words_local : AreLocals (variables_of g) (words 0 f.params)
-  locals : AreLocals (variables_of g) g.locals
+record HasVariables (params : List VarId) (added : List CVar) : Type 0 where
+  distinct : are_distinct (map (λ v. v.name) (variables_with params added)) ≡ true
+  all_named : NamedVars (variables_with params added)
+  params_named : NamedVars (words 0 params)
+  locals_named : NamedVars added
+  words_local : AreLocals (variables_with params added) (words 0 params)
+  locals : AreLocals (variables_with params added) added
 
 first_named : (xs ys : List CVar) → NamedVars (xs ++ ys) → NamedVars xs
 first_named [] ys h = tt
@@ -114,21 +86,68 @@ unfolding AreLocals
 others_locals vars [] ys h = h
 others_locals vars (x ∷ xs) ys h = others_locals vars xs ys h.1
 
-has_variables : (m : ModuleTree) (f : FunctionTree) (g : Fun) → IsFunctionOf m f g → HasVariables f g
-has_variables m f g is =
-    let ws = words 0 f.params in
-    let all = words_counted 0 (length f.params) f.params g.locals is.last (omega arith) is.counted in
-    let are : ws ++ g.locals ≡ variables_of g = ap (λ ps. ps ++ g.locals) (sym is.params) in
-    let named = counted_named (ws ++ g.locals) 0 is.last all is.small in
-    let local = counted_locals (ws ++ g.locals) 0 is.last all is.small in
+has_variables : (params : List VarId) (locals : List CVar) (last : ℕ) → AreCounted locals (length params) last → last ≤ 2 ^ 32 → HasVariables params locals
+has_variables params locals last counted small =
+    let ws = words 0 params in
+    let all = words_counted 0 (length params) params locals last (omega arith) counted in
+    let named = counted_named (ws ++ locals) 0 last all small in
+    let local = counted_locals (ws ++ locals) 0 last all small in
     record {
-      distinct = subst (λ vs. are_distinct (map (λ v. v.name) vs) ≡ true) are (counted_distinct (ws ++ g.locals) 0 is.last all is.small);
-      all_named = subst NamedVars are named;
-      params_named = subst NamedVars (sym is.params) (first_named ws g.locals named);
-      locals_named = others_named ws g.locals named;
-      words_local = subst (λ vs. AreLocals vs ws) are (first_locals (ws ++ g.locals) ws g.locals local);
-      locals = subst (λ vs. AreLocals vs g.locals) are (others_locals (ws ++ g.locals) ws g.locals local);
+      distinct = counted_distinct (ws ++ locals) 0 last all small;
+      all_named = named;
+      params_named = first_named ws locals named;
+      locals_named = others_named ws locals named;
+      words_local = first_locals (ws ++ locals) ws locals local;
+      locals = others_locals (ws ++ locals) ws locals local;
     }
+
+-- The function ------------------------------------------------------------------------------
+
+none_counted : (s : Emitter) (first : ℕ) → s.locals ≡ [] → s.next ≡ first → AreCounted s.locals first s.next
+unfolding AreCounted
+none_counted s first e f =
+    let A : List CVar → ℕ → Type 0 = λ vs n. AreCounted vs first n in
+    subst (λ vs. A vs s.next) (sym e) (subst (A []) (sym f) refl)
+
+pub loop_written : (w : Setting) (n : Tree) (s t u v : Emitter) → IsFresh s (length w.params) → length w.params ≤ 2 ^ 32 → Puts s t (piece.Loop (label_name 0)) → IsBodyOf w t u n → Puts u v piece.End → IsLooped w n v
+loop_written w n s t u v fresh few opens all closes =
+    let first : s.next ≡ length w.params = fresh.next_is in
+    let opened : t.next ≡ s.next = opens.next_is in
+    let grows : Grows s v = grows_then s t v (put_grows s t (piece.Loop (label_name 0)) opens) (grows_then t u v all.emits.grows (put_grows u v piece.End closes)) in
+    let counted : AreCounted v.locals (length w.params) v.next = grows.counted (length w.params) (none_counted s (length w.params) fresh.locals first) in
+    let small : v.next ≤ 2 ^ 32 = grows.small (omega arith) in
+    let vars = variables_with w.params v.locals in
+    let inside : AreLocals vars u.locals = (put_grows u v piece.End closes).kept vars (has_variables w.params v.locals v.next counted small).locals in
+    let b = all.emits.code vars inside done in
+    record {
+      small = small;
+      counted = counted;
+      code = b.code;
+      is = sym (
+          ap (λ ps. ps ++ piece.Loop (label_name 0) ∷ pieces b.code (piece.End ∷ [])) (sym fresh.pieces_are)
+          ∙ put_front s t (piece.Loop (label_name 0)) (pieces b.code (piece.End ∷ [])) opens ∙ b.is (piece.End ∷ []) ∙ put_front u v piece.End [] closes ∙ append-nil v.pieces
+          );
+      translated = b.meant (word_names w.params) (words_below 0 t.next w.params (omega arith));
+    }
+
+pub function_written : (m : ModuleTree) (f : FunctionTree) (e : Emitter) (g : Fun) (looped : IsLooped (setting_of m f) f.body e)
+    → g.name ≡ function_name m.name f.name → g.result ≡ c_ty.Obj → g.params ≡ words 0 f.params → g.locals ≡ e.locals → g.code ≡ loop (label_name 0) looped.code done → IsFunctionOf m f g
+function_written m f e g looped name_is result params locals code_is =
+    record {
+      name_is = name_is;
+      result = result;
+      params = params;
+      last = e.next;
+      small = looped.small;
+      counted = subst (λ vs. AreCounted vs (length f.params) e.next) (sym locals) looped.counted;
+      code = looped.code;
+      looped = code_is;
+      translated = subst (λ vs. TrIn (setting_of m f) (variables_with f.params vs) f.body Obj (word_names f.params) back looped.code done) (sym locals) looped.translated;
+    }
+
+pub setting_same : (m : ModuleTree) (f : FunctionTree) (functions : List FunctionTree) (params : List VarId) → functions ≡ m.functions → params ≡ f.params
+    → ◌≡◌ {A = Setting} (record { module_name = m.name; functions = functions; params = params }) (setting_of m f)
+setting_same m f functions params e g = cc
 
 -- Its statements ----------------------------------------------------------------------------
 
@@ -136,6 +155,7 @@ whole_body : (w : Setting) (vars : List CVar) (b : Tree) (live : List Name) (cod
 unfolding Tr
 whole_body w vars (Constant c) live code h t = absurd h
 whole_body w vars (Variable x) live code h t = absurd h
+whole_body w vars (If a b c) live code h t = absurd h
 whole_body w vars (Sequence ts) live code h t = t
 whole_body w vars (Call g ns) live code h t = absurd h
 whole_body w vars (Primitive p ns) live code h t = absurd h
@@ -145,6 +165,7 @@ fine_body : (w : Setting) (sigs : List Signature) (vars : List CVar) (grounds : 
 unfolding Tr
 fine_body w sigs vars grounds (Constant c) live code h t = absurd h
 fine_body w sigs vars grounds (Variable x) live code h t = absurd h
+fine_body w sigs vars grounds (If a b c) live code h t = absurd h
 fine_body w sigs vars grounds (Sequence none) live code h t = absurd h
 fine_body w sigs vars grounds (Sequence (more n ns)) live code h t = fine_last w sigs vars grounds (more n ns) h live code done t (fine_done w sigs vars grounds)
 fine_body w sigs vars grounds (Call g ns) live code h t = absurd h
@@ -158,9 +179,6 @@ looped_fits sigs g l body not_main distinct result code_is fits =
     ap (λ b. if b then is_main_function sigs g else is_looped sigs vars g.result g.code) not_main
     ∙ ap (λ r. is_looped sigs vars r g.code) result ∙ ap (is_looped sigs vars c_ty.Obj) code_is ∙ fits in
     and_from (are_distinct (map (λ v. v.name) vars)) (if is_main g.name then is_main_function sigs g else is_looped sigs vars g.result g.code) distinct loops
-
-named_body : (l : Name) (body code : Code) → code ≡ loop l body done → IsTrue (is_label_name l) → NamedCode body → NamedBody code
-named_body l body code e label named = subst NamedBody (sym e) (label, named, refl)
 
 -- what a function of a unit is, where these are the signatures before it
 pub record Fits (m : ModuleTree) (sigs : List Signature) (f : FunctionTree) (g : Fun) : Type 0 where
@@ -176,9 +194,10 @@ signature_at m f g name result params = cc
 pub function_fits_module : (m : ModuleTree) (w : IsWellFormed m) (hs : List FunctionTree) (f : FunctionTree) (g : Fun) → Within hs m.functions → Within m.functions hs → IsFunction m.functions f
     → IsFunctionOf m f g → Fits m (map (signature m.name) hs) f g
 function_fits_module m w hs f g within covers formed is =
-    let has = has_variables m f g is in
-    let vars = variables_of g in
+    let has = has_variables f.params g.locals is.last is.counted is.small in
     let s = setting_of m f in
+    let vars = variables_with f.params g.locals in
+    let are : vars ≡ variables_of g = ap (λ ps. ps ++ g.locals) (sym is.params) in
     let sigs = map (signature m.name) hs in
     let grounds : Grounds s sigs vars = record {
       locals_named = λ x t l. local_named vars x t has.all_named l;
@@ -186,17 +205,17 @@ function_fits_module m w hs f g within covers formed is =
       signed = λ r h found. let here = called m.functions r h found in signed m.name m.functions w.distinct h hs here within (covers h here);
       called_named = λ r h found. named_function m.name h.name w.name (is_function m.functions m.functions h w.functions (called m.functions r h found)).name;
     } in
-    let t = is.translated has.locals in
-    let fine = fine_body s sigs vars grounds f.body (word_names f.params) is.code formed.body t in
+    let fine = fine_body s sigs vars grounds f.body (word_names f.params) is.code formed.body is.translated in
     let types : map (λ v. v.ty) g.params ≡ map (λ _. c_ty.Obj) f.params = ap (map (λ v. v.ty)) is.params ∙ words_typed 0 f.params in
     record {
-      fits = looped_fits sigs g (label_name 0) is.code (ap is_main is.name_is ∙ function_name_not_main m.name f.name) has.distinct is.result is.looped fine.fits;
+      fits = looped_fits sigs g (label_name 0) is.code (ap is_main is.name_is ∙ function_name_not_main m.name f.name)
+          (subst (λ vs. are_distinct (map (λ v. v.name) vs) ≡ true) are has.distinct) is.result is.looped (subst (λ vs. code_fits sigs vs c_ty.Obj is.code ≡ true) are fine.fits);
       signature_is = signature_at m.name f g is.name_is is.result types;
       named = (
         subst (λ x. IsTrue (is_function_name x)) (sym is.name_is) (named_function m.name f.name w.name formed.name),
-        has.params_named,
+        subst NamedVars (sym is.params) has.params_named,
         has.locals_named,
-        named_body (label_name 0) is.code g.code is.looped (is_label_name-label_name 0 (omega arith)) fine.named,
+        subst NamedCode (sym is.looped) (is_label_name-label_name 0 (omega arith), fine.named, tt),
       );
       translated = record {
         name = is.name_is;
@@ -205,7 +224,7 @@ function_fits_module m w hs f g within covers formed is =
         label = label_name 0;
         body = is.code;
         looped = is.looped;
-        translated = subst (λ ps. Tr m.name m.functions (scope_of f.params ps) vars (Sequence (more f.body none)) Obj (map (λ v. v.name) ps) back is.code done) (sym is.params)
-            (whole_body s vars f.body (word_names f.params) is.code formed.body t);
+        translated = subst (λ ps. Tr m.name m.functions (scope_of f.params ps) (ps ++ g.locals) (Sequence (more f.body none)) Obj (map (λ v. v.name) ps) back is.code done) (sym is.params)
+            (whole_body s vars f.body (word_names f.params) is.code formed.body is.translated);
       };
     }

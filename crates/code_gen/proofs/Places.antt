@@ -54,10 +54,6 @@ not_absent x params inside locals same has among none =
     let bad : None ≡ Some (PlainAt Obj (local_name f.number)) = ap slot_at none ∙ sym (has x) ∙ f.is in
     absurd (cc)
 
-pub located : (x : VarId) (params inside : List VarId) (locals : BTreeMap ℕ ℕ) (n : ℕ) → inside ≡ params → HasLocals locals 0 inside → Some n ≡ get nat_cmp locals x.0
-    → slot_of x (scope_from 0 params) ≡ Some (PlainAt Obj (local_name n))
-located x params inside locals n same has some = subst (λ ps. slot_of x (scope_from 0 ps) ≡ Some (PlainAt Obj (local_name n))) same (has x ∙ sym (ap slot_at some))
-
 -- The table, from the last parameter to the first -------------------------------------------
 
 turned : (b : Bool) (x y : ℕ) → nat_eq y x ≡ b → nat_eq x y ≡ b

@@ -17,7 +17,7 @@ use Rattle.core_tree.specs.declared.tree.Top.{Top}
 use Rattle.core_tree.specs.declared.tree.Node.{Node}
 use Rattle.core_tree.specs.declared.tree.Node as node
 use Rattle.core_tree.specs.declared.tree.Node.TheViews as view
-use Rattle.core_tree.specs.Tree.{Tree, Constant, Variable, Sequence, Call, Primitive, Trees, none, more, trees, tree, count, FunctionTree, function_of, function_tree}
+use Rattle.core_tree.specs.Tree.{Tree, Constant, Variable, If, Sequence, Call, Primitive, Trees, none, more, trees, tree, count, FunctionTree, function_of, function_tree}
 use Rattle.core_tree.specs.WellFormed.{AsMany, Defined, same_variable}
 use Rattle.plan_rules.specs.Translation.{objects, is_counted}
 use Rattle.code_gen.specs.Settings.{Setting, IsNode, AreNodes, IsBodyIn}
@@ -27,6 +27,9 @@ tree-Constant c = search (rules, node.the_lemmas)
 
 pub tree-Variable : (x : VarId) → tree (node.Variable x) ≡ Variable x
 tree-Variable x = search (rules, node.the_lemmas)
+
+pub tree-If : (a b c : Node) → tree (view.If a b c) ≡ If (tree a) (tree b) (tree c)
+tree-If a b c = search (rules, node.the_lemmas)
 
 pub tree-Sequence : (ns : List Node) → tree (view.Sequence ns) ≡ Sequence (trees (map tree ns))
 tree-Sequence ns = search (rules, node.the_lemmas)
@@ -42,6 +45,11 @@ tree-Primitive p ns = search (rules, node.the_lemmas)
 abbrev parts : List Node → Trees
 parts ns = trees (map tree ns)
 
+-- an `if` by its parts, of which these are equal to x, y and z
+pub chosen_tree : (n a b c x y z : Node) → n ≡ view.If a b c → x ≡ a → y ≡ b → z ≡ c → tree n ≡ If (tree x) (tree y) (tree z)
+chosen_tree n a b c x y z e x_is y_is z_is =
+    ap tree e ∙ tree-If a b c ∙ ap (λ (m : Node). If (tree m) (tree b) (tree c)) (sym x_is) ∙ ap (λ (m : Node). If (tree x) (tree m) (tree c)) (sym y_is) ∙ ap (λ (m : Node). If (tree x) (tree y) (tree m)) (sym z_is)
+
 module _ (w : Setting) where
   pub variable_part : (n : Node) (x : VarId) → n ≡ node.Variable x → IsNode w (tree n) → IsTrue (list_any (same_variable x) w.params)
   variable_part n x e h = subst (IsNode w) (ap tree e ∙ tree-Variable x) h
@@ -54,8 +62,8 @@ module _ (w : Setting) where
   call_parts n g ns xs e are h =
       subst (λ (ms : List Node). Defined (function_of w.functions g) × AreNodes w (parts ms)) (sym are) (subst (IsNode w) (ap tree e ∙ tree-Call g ns) h)
 
-  pub no_sequence : (n : Node) (ns : List Node) → n ≡ view.Sequence ns → IsNode w (tree n) → ⊥
-  no_sequence n ns e h = subst (IsNode w) (ap tree e ∙ tree-Sequence ns) h
+  pub chosen_parts : (n a b c x y z : Node) → n ≡ view.If a b c → x ≡ a → y ≡ b → z ≡ c → IsNode w (tree n) → IsNode w (If (tree x) (tree y) (tree z))
+  chosen_parts n a b c x y z e x_is y_is z_is h = subst (IsNode w) (chosen_tree n a b c x y z e x_is y_is z_is) h
 
   node_got : (ns : List Node) (i : ℕ) (d : Node) → i < length ns → AreNodes w (parts ns) → IsNode w (tree (get_or ns i d))
   node_got [] i d within h = absurd (omega arith)
@@ -77,15 +85,6 @@ module _ (w : Setting) where
 
   pub constant_no_body : (n : Node) (c : Const) → n ≡ node.Constant c → IsBodyIn w (tree n) → ⊥
   constant_no_body n c e h = subst (IsBodyIn w) (ap tree e ∙ tree-Constant c) h
-
-  pub variable_no_body : (n : Node) (x : VarId) → n ≡ node.Variable x → IsBodyIn w (tree n) → ⊥
-  variable_no_body n x e h = subst (IsBodyIn w) (ap tree e ∙ tree-Variable x) h
-
-  pub call_no_body : (n : Node) (g : GlobalRef) (ns : List Node) → n ≡ view.Call g ns → IsBodyIn w (tree n) → ⊥
-  call_no_body n g ns e h = subst (IsBodyIn w) (ap tree e ∙ tree-Call g ns) h
-
-  pub primitive_no_body : (n : Node) (p : Builtin) (ns : List Node) → n ≡ view.Primitive p ns → IsBodyIn w (tree n) → ⊥
-  primitive_no_body n p ns e h = subst (IsBodyIn w) (ap tree e ∙ tree-Primitive p ns) h
 
 -- Counts ------------------------------------------------------------------------------------
 
@@ -134,6 +133,7 @@ unfoldable mutual
   pub weight : Tree → ℕ
   weight (Constant c) = 1
   weight (Variable x) = 1
+  weight (If a b c) = suc (weight a + (weight b + weight c))
   weight (Sequence ts) = suc (weights ts)
   weight (Call g ts) = suc (weights ts)
   weight (Primitive p ts) = suc (weights ts)
@@ -149,6 +149,13 @@ weight-Primitive n p ns xs e are = ap weight (ap tree e ∙ tree-Primitive p ns)
 pub weight-Call : (n : Node) (g : GlobalRef) (ns xs : List Node) → n ≡ view.Call g ns → xs ≡ ns → weight (tree n) ≡ suc (weights (parts xs))
 unfolding weight
 weight-Call n g ns xs e are = ap weight (ap tree e ∙ tree-Call g ns) ∙ ap (λ (ms : List Node). suc (weights (parts ms))) (sym are)
+
+pub weight-If : (a b c : Tree) → weight (If a b c) ≡ suc (weight a + (weight b + weight c))
+unfolding weight
+weight-If a b c = refl
+
+pub weight_chosen : (n a b c x y z : Node) → n ≡ view.If a b c → x ≡ a → y ≡ b → z ≡ c → weight (tree n) ≡ suc (weight (tree x) + (weight (tree y) + weight (tree z)))
+weight_chosen n a b c x y z e x_is y_is z_is = ap weight (chosen_tree n a b c x y z e x_is y_is z_is) ∙ weight-If (tree x) (tree y) (tree z)
 
 weight_got : (ns : List Node) (i : ℕ) (d : Node) → i < length ns → weight (tree (get_or ns i d)) ≤ weights (parts ns)
 unfolding weights

@@ -1,35 +1,36 @@
 -- The statements of a translated body are named, and their types fit.
 use Rattle.std.proofs.Common.{◌≡◌, ℕ, List, [], ◌∷◌, ◌++◌, length, map, Bool, true, false, Option, Some, None, refl, sym, ap, ◌∙◌, subst, arith}
-use Rattle.std.specs.Prelude.{IsTrue}
+use Rattle.std.specs.Prelude.{IsTrue, pos, ◌&&◌}
 use Rattle.std.proofs.lemmas.Bool.{and_from, eqb-true}
-use Rattle.scheme_data.specs.Fixnum.{IsFixnum}
 use Rattle.prim_table.specs.declared.primitives.Ty.{Ty}
 use Rattle.prim_table.specs.declared.primitives.Ty.TheVariants as ty
 use Rattle.prim_table.specs.declared.primitives.Primitive.{Primitive as Builtin}
 use Rattle.prim_table.specs.declared.primitives.Primitive.TheVariants as builtin
 use Rattle.prim_table.specs.Table.{params_of, result_of}
+use Rattle.core_tree.specs.declared.tree.Const.{Const}
 use Rattle.core_tree.specs.declared.tree.Const.TheVariants as const
 use Rattle.core_tree.specs.declared.tree.VarId.{VarId}
 use Rattle.core_tree.specs.declared.tree.GlobalRef.{GlobalRef}
-use Rattle.core_tree.specs.Tree.{Tree, Constant, Variable, Sequence, Call, Primitive, Trees, none, more, count, FunctionTree, function_of}
+use Rattle.core_tree.specs.Tree.{Tree, Constant, Variable, If, Sequence, Call, Primitive, Trees, none, more, count, FunctionTree, function_of}
 use Rattle.c_tree.specs.declared.op.Op.{Op}
-use Rattle.c_tree.specs.declared.op.Op.TheVariants.{BoxLong, UnboxLong, Primitive as Does}
+use Rattle.c_tree.specs.declared.op.Op.TheVariants.{BoxLong, BoxBool, UnboxLong, Truth, Primitive as Does}
 use Rattle.c_tree.specs.declared.tree.CTy.{CTy}
 use Rattle.c_tree.specs.declared.tree.CTy.TheVariants as c_ty
 use Rattle.c_tree.specs.declared.tree.CArg.{CArg}
+use Rattle.c_tree.specs.declared.tree.CArg.TheVariants as arg
 use Rattle.c_tree.specs.declared.tree.CAtom.TheVariants as atom
 use Rattle.c_tree.specs.declared.tree.CCall.{CCall}
 use Rattle.c_tree.specs.declared.tree.CExpr.{CExpr}
 use Rattle.c_tree.specs.declared.tree.CExpr.TheVariants as expr
 use Rattle.c_tree.specs.declared.tree.CVar.{CVar}
-use Rattle.c_tree.specs.Code.{Code, done, assign, call, return}
+use Rattle.c_tree.specs.Code.{Code, done, assign, call, return, test}
 use Rattle.c_tree.specs.Names.{function_name, is_local_name, is_function_name}
 use Rattle.c_tree.specs.Spelling.{NamedArguments, NamedCall, NamedExpr, NamedCode}
 use Rattle.c_meaning.specs.Checked.{Signature, signature_named, same_type, is_typed, variable_named, Wants, AType, wants_of, gives_of, arguments_fit, call_fits_signature, call_type, is_the_type, has_type, expr_fits, assigned_fits, code_fits}
 use Rattle.plan_rules.specs.declared.rep.Rep.{Rep}
-use Rattle.plan_rules.specs.declared.rep.Rep.TheVariants.{Obj, Long}
-use Rattle.plan_rules.specs.Representation.{Slot, PlainAt, slot_of, rep_of, c_type_of, has_of, operation, raise_count, call_of, local, fixnum_expr, step}
-use Rattle.plan_rules.specs.Translation.{Name, IsLocal, Place, into, back, deliver, Statements, Coerced, Fits, AllFit, Applied, haves, objects, is_counted, TrVariable, TrVariableUnused, TrCounted, TrCall, Tr, TrUnused, TrLast, TrArguments}
+use Rattle.plan_rules.specs.declared.rep.Rep.TheVariants.{Obj, Long, Bool as Truth_rep}
+use Rattle.plan_rules.specs.Representation.{Slot, PlainAt, slot_of, rep_of, c_type_of, has_of, constant_expr, condition, operation, raise_count, raise_type, call_of, local, step}
+use Rattle.plan_rules.specs.Translation.{Name, IsLocal, Place, into, back, deliver, Statements, Coerced, Fits, AllFit, Applied, Branches, haves, objects, is_counted, TrConstant, TrVariable, TrVariableUnused, TrCounted, TrCall, Tr, TrUnused, TrLast, TrArguments}
 use Rattle.code_gen.specs.Settings.{Setting, scope_in, IsNode, AreNodes, TrIn, TrUnusedIn, TrLastIn, TrArgumentsIn}
 
 same_c_type : (t u : CTy) → same_type t u ≡ true → t ≡ u
@@ -87,9 +88,8 @@ module _ (w : Setting) (sigs : List Signature) (vars : List CVar) (grounds : Gro
     fits : expr_fits sigs vars e t ≡ true
     named : NamedExpr e
 
-  fine_number : (n : _) (h : Rep) → IsFixnum n → FineExpr (fixnum_expr h n) (c_type_of h)
-  fine_number n Obj h = record { fits = rw h refl; named = (tt, (h, tt)) }
-  fine_number n Long h = record { fits = h; named = h }
+  abbrev whole : ℕ → CExpr
+  whole n = expr.Atom (atom.Int (pos n))
 
   fine_local : (y : Name) (t : CTy) → IsLocal vars y t → FineExpr (expr.Atom (atom.Name y)) t
   fine_local y t h = record { fits = h; named = grounds.locals_named y t h }
@@ -125,15 +125,33 @@ module _ (w : Setting) (sigs : List Signature) (vars : List CVar) (grounds : Gro
       own c_ty.Char = refl
       own c_ty.Int = refl
 
-  fine_box : (x : Name) → IsLocal vars x c_ty.Long → FineExpr (expr.Call (operation BoxLong (local x ∷ []))) c_ty.Obj
-  fine_box x h =
-      fine_call (operation BoxLong (local x ∷ [])) c_ty.Obj (fine_operation BoxLong (local x ∷ [])
-      (record { fits = and_from (is_typed c_ty.Long (variable_named vars x)) true h refl; named = (grounds.locals_named x c_ty.Long h, tt) }))
+  fine_refusal : (t : Ty) → FineCall (raise_type t) c_ty.Int
+  fine_refusal t = record { typed = refl; named = (tt, (refl, (tt, tt))) }
 
-  fine_unbox : (x : Name) → IsLocal vars x c_ty.Obj → FineExpr (expr.Call (operation UnboxLong (local x ∷ []))) c_ty.Long
-  fine_unbox x h =
-      fine_call (operation UnboxLong (local x ∷ [])) c_ty.Long (fine_operation UnboxLong (local x ∷ [])
-      (record { fits = and_from (is_typed c_ty.Obj (variable_named vars x)) true h refl; named = (grounds.locals_named x c_ty.Obj h, tt) }))
+  -- an operation on a local
+  fine_on : (op : Op) (x : Name) (t : CTy) → wants_of op ≡ AType t ∷ [] → IsLocal vars x t → FineExpr (expr.Call (operation op (local x ∷ []))) (gives_of op)
+  fine_on op x t wants h =
+      let fits : FineArgs (AType t ∷ []) (local x ∷ []) =
+      record { fits = and_from (is_typed t (variable_named vars x)) true h refl; named = (grounds.locals_named x t h, tt) } in
+      fine_call (operation op (local x ∷ [])) (gives_of op) (fine_operation op (local x ∷ []) (subst (λ ws. FineArgs ws (local x ∷ [])) (sym wants) fits))
+
+  fine_constant : (k : Const) (h : Rep) (e : CExpr) → IsNode w (Constant k) → constant_expr k h ≡ Some e → FineExpr e (c_type_of h)
+  fine_constant (const.Int n) Obj e x is =
+      let number : FineExpr (expr.Call (operation BoxLong (arg.Atom (atom.Int n) ∷ []))) c_ty.Obj = record { fits = rw x refl; named = (tt, (x, tt)) } in
+      subst (λ f. FineExpr f c_ty.Obj) (cc) number
+  fine_constant (const.Int n) Long e x is = let number : FineExpr (expr.Atom (atom.Int n)) c_ty.Long = record { fits = x; named = x } in subst (λ f. FineExpr f c_ty.Long) (cc) number
+  fine_constant (const.Int n) Truth_rep e x is = absurd (cc)
+  fine_constant (const.Bool true) Obj e x is = let word : FineExpr (expr.Atom atom.True) c_ty.Obj = record { fits = refl; named = tt } in subst (λ f. FineExpr f c_ty.Obj) (cc) word
+  fine_constant (const.Bool false) Obj e x is = let word : FineExpr (expr.Atom atom.False) c_ty.Obj = record { fits = refl; named = tt } in subst (λ f. FineExpr f c_ty.Obj) (cc) word
+  fine_constant (const.Bool b) Long e x is = absurd (cc)
+  fine_constant (const.Bool true) Truth_rep e x is = let one : FineExpr (whole 1) c_ty.Int = record { fits = refl; named = refl } in subst (λ f. FineExpr f c_ty.Int) (cc) one
+  fine_constant (const.Bool false) Truth_rep e x is = let zero : FineExpr (whole 0) c_ty.Int = record { fits = refl; named = refl } in subst (λ f. FineExpr f c_ty.Int) (cc) zero
+
+  -- what a test's local chooses by
+  fine_condition : (h : Rep) (y : Name) → IsLocal vars y (c_type_of h) → FineExpr (condition h y) c_ty.Int
+  fine_condition Obj y l = fine_on Truth y c_ty.Obj refl l
+  fine_condition Long y l = record { fits = refl; named = refl }
+  fine_condition Truth_rep y l = fine_local y c_ty.Int l
 
   -- Statements ------------------------------------------------------------------------------
 
@@ -158,6 +176,14 @@ module _ (w : Setting) (sigs : List Signature) (vars : List CVar) (grounds : Gro
     fits = and_from (has_type (call_type sigs vars c.callee c.args)) (code_fits sigs vars c_ty.Obj rest) (ap has_type h.typed) f.fits;
     named = (h.named, f.named);
   }
+
+  fine_test : (e : CExpr) (a b rest : Code) → FineExpr e c_ty.Int → Fine a → Fine b → Fine rest → Fine (test e a b rest)
+  fine_test e a b rest h f g k =
+      let fits : Code → Bool = code_fits sigs vars c_ty.Obj in
+      record {
+        fits = and_from (expr_fits sigs vars e c_ty.Int) (fits a && (fits b && fits rest)) h.fits (and_from (fits a) (fits b && fits rest) f.fits (and_from (fits b) (fits rest) g.fits k.fits));
+        named = (h.named, f.named, g.named, k.named);
+      }
 
   -- the place takes a value in this representation
   abbrev PlaceFits : Place → Rep → Type 0
@@ -186,14 +212,35 @@ module _ (w : Setting) (sigs : List Signature) (vars : List CVar) (grounds : Gro
       → IsLocal vars made (c_type_of (rep_of t))
   made_one ty.Obj Obj live y code made rest f l = subst (λ x. IsLocal vars x c_ty.Obj) (sym f.1) l
   made_one ty.Obj Long live y code made rest f l = f.is_local
+  made_one ty.Obj Truth_rep live y code made rest f l = f.is_local
   made_one ty.Long Obj live y code made rest f l = f.is_local
   made_one ty.Long Long live y code made rest f l = subst (λ x. IsLocal vars x c_ty.Long) (sym f.1) l
+  made_one ty.Long Truth_rep live y code made rest f l = f.is_local
+  made_one ty.Bool Obj live y code made rest f l = absurd f
+  made_one ty.Bool Long live y code made rest f l = f.is_local
+  made_one ty.Bool Truth_rep live y code made rest f l = subst (λ x. IsLocal vars x c_ty.Int) (sym f.1) l
+
+  -- an operation on the value goes to a local
+  fine_made_by : (o : Op) (t u : CTy) (y made : Name) (code rest : Code) → wants_of o ≡ AType t ∷ [] → gives_of o ≡ u → IsLocal vars y t → IsLocal vars made u
+      → code ≡ assign made (expr.Call (operation o (local y ∷ []))) rest → Fine rest → Fine code
+  fine_made_by o t u y made code rest wants gives l m is g =
+      let e = expr.Call (operation o (local y ∷ [])) in
+      subst Fine (sym is) (fine_assign made u e rest m (subst (FineExpr e) gives (fine_on o y t wants l)) g)
+
+  -- an error, and then the number 0
+  fine_zero : (t : Ty) (u : CTy) (made : Name) (code rest : Code) → FineExpr (whole 0) u → IsLocal vars made u → code ≡ call (raise_type t) (assign made (whole 0) rest) → Fine rest → Fine code
+  fine_zero t u made code rest h m is g = subst Fine (sym is) (fine_statement (raise_type t) c_ty.Int (assign made (whole 0) rest) (fine_refusal t) (fine_assign made u (whole 0) rest m h g))
 
   fine_one : (t : Ty) (h : Rep) (live : List Name) (y : Name) (code : Code) (made : Name) (rest : Code) → Fits vars t (step t h) live y code made rest → IsLocal vars y (c_type_of h) → Fine rest → Fine code
   fine_one ty.Obj Obj live y code made rest f l g = subst Fine (sym f.0) g
-  fine_one ty.Obj Long live y code made rest f l g = subst Fine (sym f.is) (fine_assign made c_ty.Obj (expr.Call (operation BoxLong (local y ∷ []))) rest f.is_local (fine_box y l) g)
-  fine_one ty.Long Obj live y code made rest f l g = subst Fine (sym f.is) (fine_assign made c_ty.Long (expr.Call (operation UnboxLong (local y ∷ []))) rest f.is_local (fine_unbox y l) g)
+  fine_one ty.Obj Long live y code made rest f l g = fine_made_by BoxLong c_ty.Long c_ty.Obj y made code rest refl refl l f.is_local f.is g
+  fine_one ty.Obj Truth_rep live y code made rest f l g = fine_made_by BoxBool c_ty.Int c_ty.Obj y made code rest refl refl l f.is_local f.is g
+  fine_one ty.Long Obj live y code made rest f l g = fine_made_by UnboxLong c_ty.Obj c_ty.Long y made code rest refl refl l f.is_local f.is g
   fine_one ty.Long Long live y code made rest f l g = subst Fine (sym f.0) g
+  fine_one ty.Long Truth_rep live y code made rest f l g = fine_zero ty.Long c_ty.Long made code rest (record { fits = refl; named = refl }) f.is_local f.is g
+  fine_one ty.Bool Obj live y code made rest f l g = absurd f
+  fine_one ty.Bool Long live y code made rest f l g = fine_zero ty.Bool c_ty.Int made code rest (record { fits = refl; named = refl }) f.is_local f.is g
+  fine_one ty.Bool Truth_rep live y code made rest f l g = subst Fine (sym f.0) g
 
   made_all : (ts : List Ty) (hs : List Rep) (ys live : List Name) (code : Code) (made : List Name) (rest : Code) → AllFit vars ts hs ys live code made rest → AreTyped ys hs → AreMade made ts
   made_all [] [] [] live code made rest f l = subst (λ m. AreMade m []) (sym f.1) tt
@@ -239,11 +286,13 @@ module _ (w : Setting) (sigs : List Signature) (vars : List CVar) (grounds : Gro
 
   wants-params : (p : Builtin) → wants_of (Does p) ≡ map wanted (params_of p)
   wants-params builtin.Add = refl
+  wants-params builtin.Less = refl
   wants-params builtin.Display = refl
   wants-params builtin.Newline = refl
 
   gives-result : (p : Builtin) → gives_of (Does p) ≡ c_type_of (rep_of (result_of p))
   gives-result builtin.Add = refl
+  gives-result builtin.Less = refl
   gives-result builtin.Display = refl
   gives-result builtin.Newline = refl
 
@@ -291,6 +340,11 @@ module _ (w : Setting) (sigs : List Signature) (vars : List CVar) (grounds : Gro
 
   -- Nodes -----------------------------------------------------------------------------------
 
+  fine_literal : (o : Option CExpr) (k : Const) (h : Rep) (place : Place) (code rest : Code) → constant_expr k h ≡ o → IsNode w (Constant k)
+      → TrConstant w.module_name w.functions (scope_in w) vars o place code rest → PlaceFits place h → Fine rest → Fine code
+  fine_literal None k h place code rest is x t l g = absurd t
+  fine_literal (Some e) k h place code rest is x t l g = subst Fine (sym t) (fine_deliver place h e rest l (fine_constant k h e x is) g)
+
   fine_variable : (o : Option Slot) (x : VarId) (h : Rep) (place : Place) (code rest : Code) → slot_of x (scope_in w) ≡ o
       → TrVariable w.module_name w.functions (scope_in w) vars o h place code rest → PlaceFits place h → Fine rest → Fine code
   fine_variable None x h place code rest found t l g = absurd t
@@ -302,12 +356,43 @@ module _ (w : Setting) (sigs : List Signature) (vars : List CVar) (grounds : Gro
   fine_variable_unused None code rest t g = absurd t
   fine_variable_unused (Some slot) code rest t g = subst Fine (sym t) g
 
+  -- a value's statements are right before a right rest
+  abbrev AllFine : Statements → Rep → Type 0
+  AllFine given h = (place : Place) (code rest : Code) → given place code rest → PlaceFits place h → Fine rest → Fine code
+
+  fine_coerced : (h : Rep) (given : Statements) (live : List Name) (place : Place) (code rest : Code) → AllFine given h → PlaceFits place Obj → Coerced vars h Obj given live place code rest → Fine rest → Fine code
+  fine_coerced Obj given live place code rest each l c g = each place code rest c l g
+  fine_coerced Long given live place code rest each l c g =
+      each (into c.temporary) code c.middle c.value c.is_local
+      (subst Fine (sym c.box) (fine_deliver place Obj (expr.Call (operation BoxLong (local c.temporary ∷ []))) rest l (fine_on BoxLong c.temporary c_ty.Long refl c.is_local) g))
+  fine_coerced Truth_rep given live place code rest each l c g =
+      each (into c.temporary) code c.middle c.value c.is_local
+      (subst Fine (sym c.box) (fine_deliver place Obj (expr.Call (operation BoxBool (local c.temporary ∷ []))) rest l (fine_on BoxBool c.temporary c_ty.Int refl c.is_local) g))
+
+  fine_branches : (h : Rep) (given : Statements) (live : List Name) (one other : Code → Type 0) (code rest : Code) → AllFine given h → ((code : Code) → one code → Fine code) → ((code : Code) → other code → Fine code)
+      → Branches vars h given live one other code rest → Fine rest → Fine code
+  fine_branches h given live one other code rest each first second t g =
+      each (into t.temporary) code t.middle t.given t.is_local
+      (subst Fine (sym t.is)
+      (fine_test (condition h t.temporary) t.first t.second rest (fine_condition h t.temporary t.is_local) (first t.first t.taken) (second t.second t.else_taken) g))
+
   mutual
     unfolding Tr TrArguments
 
     fine_tr : (n : Tree) → IsNode w n → (h : Rep) (live : List Name) (place : Place) (code rest : Code) → TrIn w vars n h live place code rest → PlaceFits place h → Fine rest → Fine code
-    fine_tr (Constant (const.Int n)) x h live place code rest t l g = subst Fine (sym t) (fine_deliver place h (fixnum_expr h n) rest l (fine_number n h x) g)
+    fine_tr (Constant k) x h live place code rest t l g = fine_literal (constant_expr k h) k h place code rest refl x t l g
     fine_tr (Variable v) x h live place code rest t l g = fine_variable (slot_of v (scope_in w)) v h place code rest refl t l g
+    fine_tr (If a b c) x h live place code rest t l g =
+        let word : PlaceFits place Obj = subst (PlaceFits place) t.0 l in
+        fine_branches (has_of (scope_in w) a Truth_rep) (λ place code rest. TrIn w vars a (has_of (scope_in w) a Truth_rep) live place code rest) live
+        (λ code. Coerced vars (has_of (scope_in w) b Obj) Obj (λ place code rest. TrIn w vars b (has_of (scope_in w) b Obj) live place code rest) live place code done)
+        (λ code. Coerced vars (has_of (scope_in w) c Obj) Obj (λ place code rest. TrIn w vars c (has_of (scope_in w) c Obj) live place code rest) live place code done) code rest
+        (λ place code rest t l f. fine_tr a x.0 (has_of (scope_in w) a Truth_rep) live place code rest t l f)
+        (λ code t. fine_coerced (has_of (scope_in w) b Obj) (λ place code rest. TrIn w vars b (has_of (scope_in w) b Obj) live place code rest) live place code done
+        (λ place code rest t l f. fine_tr b x.1 (has_of (scope_in w) b Obj) live place code rest t l f) word t fine_done)
+        (λ code t. fine_coerced (has_of (scope_in w) c Obj) (λ place code rest. TrIn w vars c (has_of (scope_in w) c Obj) live place code rest) live place code done
+        (λ place code rest t l f. fine_tr c x.2 (has_of (scope_in w) c Obj) live place code rest t l f) word t fine_done)
+        t.1 g
     fine_tr (Sequence ts) x h live place code rest t l g = absurd x
     fine_tr (Call f ns) x h live place code rest t l g =
         fine_called (function_of w.functions f) f ns live (λ c. deliver place (expr.Call c) rest) code rest refl
@@ -331,6 +416,11 @@ module _ (w : Setting) (sigs : List Signature) (vars : List CVar) (grounds : Gro
   unfolding TrUnused
   fine_unused (Constant c) x live code rest t g = subst Fine (sym t) g
   fine_unused (Variable v) x live code rest t g = fine_variable_unused (slot_of v (scope_in w)) code rest t g
+  fine_unused (If a b c) x live code rest t g =
+      fine_branches (has_of (scope_in w) a Truth_rep) (λ place code rest. TrIn w vars a (has_of (scope_in w) a Truth_rep) live place code rest) live
+      (λ code. TrUnusedIn w vars b live code done) (λ code. TrUnusedIn w vars c live code done) code rest
+      (λ place code rest t l f. fine_tr a x.0 (has_of (scope_in w) a Truth_rep) live place code rest t l f)
+      (λ code t. fine_unused b x.1 live code done t fine_done) (λ code t. fine_unused c x.2 live code done t fine_done) t g
   fine_unused (Sequence ts) x live code rest t g = absurd x
   fine_unused (Call f ns) x live code rest t g =
       fine_called (function_of w.functions f) f ns live (λ c. call c rest) code rest refl
@@ -339,16 +429,10 @@ module _ (w : Setting) (sigs : List Signature) (vars : List CVar) (grounds : Gro
       fine_applied (params_of p) ns live (λ args. call (operation (Does p) args) rest) code (λ ys code middle a f. fine_arguments ns x.1 (params_of p) live ys code middle a f)
       (λ args f. fine_statement (operation (Does p) args) (c_type_of (rep_of (result_of p))) rest (fine_primitive p args f) g) t
 
-  fine_coerced : (h : Rep) (given : Statements) (live : List Name) (code rest : Code)
-      → ((place : Place) (code rest : Code) → given place code rest → PlaceFits place h → Fine rest → Fine code) → Coerced vars h Obj given live back code rest → Fine rest → Fine code
-  fine_coerced Obj given live code rest each c g = each back code rest c refl g
-  fine_coerced Long given live code rest each c g =
-      each (into c.temporary) code c.middle c.value c.is_local (subst Fine (sym c.box) (fine_return (expr.Call (operation BoxLong (local c.temporary ∷ []))) rest (fine_box c.temporary c.is_local) g))
-
   pub fine_last : (ts : Trees) → AreNodes w ts → (live : List Name) (code rest : Code) → TrLastIn w vars ts Obj live back code rest → Fine rest → Fine code
   unfolding TrLast
   fine_last none x live code rest t g = absurd t
   fine_last (more n none) x live code rest t g =
-      fine_coerced (has_of (scope_in w) n Obj) (λ place code rest. TrIn w vars n (has_of (scope_in w) n Obj) live place code rest) live code rest
-      (λ place code rest t l f. fine_tr n x.0 (has_of (scope_in w) n Obj) live place code rest t l f) t g
+      fine_coerced (has_of (scope_in w) n Obj) (λ place code rest. TrIn w vars n (has_of (scope_in w) n Obj) live place code rest) live back code rest
+      (λ place code rest t l f. fine_tr n x.0 (has_of (scope_in w) n Obj) live place code rest t l f) refl t g
   fine_last (more n (more u us)) x live code rest t g = fine_unused n x.0 live code t.middle t.one (fine_last (more u us) x.1 live t.middle rest t.all g)

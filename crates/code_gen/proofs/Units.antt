@@ -2,14 +2,15 @@
 use Rattle.std.proofs.Common.{◌≡◌, ℕ, zero, suc, ◌+◌, ◌<◌, true, List, [], ◌∷◌, ◌++◌, length, map, take, get_or, inl, inr, refl, sym, ap, ◌∙◌, subst, arith, append_assoc}
 use Rattle.std.specs.Prelude.{◌&&◌, IsTrue}
 use Rattle.std.proofs.lemmas.Bool.{and_from}
-use Rattle.std.proofs.lemmas.List.{append-nil, map-append, take_more}
+use Rattle.std.proofs.lemmas.List.{map-append, take_more}
 use Rattle.core_tree.specs.Tree.{FunctionTree, ModuleTree, function_tree}
 use Rattle.core_tree.specs.declared.tree.Top.{Top}
 use Rattle.core_tree.specs.WellFormed.{IsFunction, AreFunctions, IsWellFormed}
-use Rattle.c_tree.specs.declared.tree.CFun.{CFun}
-use Rattle.c_tree.specs.declared.tree.CItem.{CItem}
-use Rattle.c_tree.specs.declared.tree.CItem.TheVariants.{Defined}
-use Rattle.c_tree.specs.Code.{Fun, Item, defined, fun_of, item_of, items_of}
+use Rattle.c_tree.specs.declared.function.CFun.{CFun}
+use Rattle.c_tree.specs.declared.function.CItem.{CItem}
+use Rattle.c_tree.specs.declared.function.CItem.TheVariants.{Defined}
+use Rattle.c_tree.specs.Code.{Fun, Item, defined}
+use Rattle.c_tree.specs.Functions.{fun_of, item_of, items_of}
 use Rattle.c_tree.specs.Names.{function_name}
 use Rattle.c_tree.specs.Spelling.{NamedItems}
 use Rattle.c_meaning.specs.Checked.{Signature, signature_of, function_fits, callable, agrees, are_distinct, items_fit, defined_names, is_sound}
@@ -26,9 +27,6 @@ one_more m [] [] f g all one = (one, tt)
 one_more m (h ∷ hs) (k ∷ ks) f g all one = (all.0, one_more m hs ks f g all.1 one)
 one_more m [] (k ∷ ks) f g all one = absurd all
 one_more m (h ∷ hs) [] f g all one = absurd all
-
-pub adds_none : (m : ModuleTree) (before : List Item) → AddsFunctions m [] before before
-adds_none m before = record { added = []; is = sym (append-nil before); are = tt }
 
 pub adds_one : (m : ModuleTree) (tops : List Top) (i : ℕ) (top : Top) (before middle after : List Item) (g : Fun) → i < length tops → top ≡ get_or tops i top
     → AddsFunctions m (map function_tree (take i tops)) before middle → IsFunctionOf m (function_tree top) g → after ≡ middle ++ defined g ∷ []

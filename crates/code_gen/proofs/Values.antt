@@ -38,7 +38,7 @@ module _ (w : Setting) where
       → held.rep ≡ h → held.local ≡ t.next → held.local < 2 ^ 32 → u.next ≡ suc held.local → Emits s t before → Emits t u (Ends held h ends)
       → h ≡ has_of (scope_in w) n wanted → Joins n h s.next held before ends → IsValue w s u n wanted held
   value_after s t u before ends n wanted h held rep number small next first second h_is join =
-      let started : s.next ≤ t.next = first.later in
+      let started : s.next ≤ t.next = first.grows.later in
       record {
         rep = rep ∙ h_is;
         below = omega arith;
@@ -108,8 +108,8 @@ module _ (w : Setting) where
       let h = has_of (scope_in w) (tree n) (rep_of t) in
       let v : IsValue w e g (tree n) (rep_of t) one = subst (λ r. IsValue w e g (tree n) r one) wanted_is value in
       let names : held_names (held ++ one ∷ []) ≡ held_names held ++ x ∷ [] = map-append (λ (h : Held). local_name h.local) held (one ∷ []) in
-      let later : e.next ≤ g.next = v.emits.later in
-      let started : s.next ≤ e.next = so.emits.later in
+      let later : e.next ≤ g.next = v.emits.grows.later in
+      let started : s.next ≤ e.next = so.emits.grows.later in
       let first_types : drop i types ≡ t ∷ drop (suc i) types = drop-cons types i d (omega arith) in
       let first_nodes : drop i nodes ≡ n ∷ drop (suc i) nodes = drop-cons nodes i n within ∙ ap (λ u. u ∷ drop (suc i) nodes) (sym n_is) in
       rw (after_is, add-one i) (record {
@@ -172,7 +172,7 @@ module _ (w : Setting) where
         (λ vars code rest. (live : List Name) → AreBelow t.next live → AllFit vars types (reps held) (held_names held) live code (map local_name made) rest)
         (λ vars code rest. (live : List Name) → AreBelow s.next live → AreReady w types ns live args vars code rest) a.emits f.emits
         (λ vars code middle rest x y live b.
-        let started : s.next ≤ t.next = a.emits.later in
+        let started : s.next ≤ t.next = a.emits.grows.later in
         let below : AreBelow t.next (held_names held ++ live) = below_append t.next (held_names held) live a.below (below_more s.next t.next live started b) in
         record {
           temporaries = held_names held;

@@ -1,44 +1,54 @@
 -- What the emitter adds: for any rest after it, code in front of the rest that is related to what was asked for.
-use Rattle.std.specs.Prelude.{◌≡◌, ℕ, suc, ◌<◌, ◌≤◌, ◌^◌, List, [], ◌∷◌, ◌++◌, map, true, false, length, Option, Some, None}
+use Rattle.std.specs.Prelude.{◌≡◌, ℕ, suc, ◌<◌, ◌≤◌, ◌^◌, List, [], ◌∷◌, ◌++◌, map, IsTrue, true, false, length, Option, Some, None}
+use Rattle.std.specs.List.{list_all}
 use Rattle.prim_table.specs.declared.primitives.Ty.{Ty}
 use Rattle.prim_table.specs.declared.primitives.Primitive.{Primitive as Builtin}
-use Rattle.prim_table.specs.Table.{params_of}
-use Rattle.core_tree.specs.declared.tree.Const.{Const}
-use Rattle.core_tree.specs.declared.tree.Const.TheVariants.{Int}
+use Rattle.prim_table.specs.Table.{params_of, is_parameter_type}
 use Rattle.core_tree.specs.declared.tree.VarId.{VarId}
 use Rattle.core_tree.specs.declared.tree.GlobalRef.{GlobalRef}
 use Rattle.core_tree.specs.Tree.{Tree, Trees, FunctionTree, ModuleTree, function_of}
-use Rattle.c_tree.specs.declared.op.Op.{Op}
-use Rattle.c_tree.specs.declared.op.Op.TheVariants.{BoxLong, Primitive as Does}
+use Rattle.c_tree.specs.declared.op.Op.TheVariants.{Primitive as Does}
 use Rattle.c_tree.specs.declared.tree.CTy.TheVariants as c_ty
 use Rattle.c_tree.specs.declared.tree.CArg.{CArg}
 use Rattle.c_tree.specs.declared.tree.CCall.{CCall}
 use Rattle.c_tree.specs.declared.tree.CExpr.{CExpr}
 use Rattle.c_tree.specs.declared.tree.CExpr.TheVariants as expr
-use Rattle.c_tree.specs.declared.tree.CStmt.{CStmt}
 use Rattle.c_tree.specs.declared.tree.CVar.{CVar}
-use Rattle.c_tree.specs.Code.{Code, done, assign, return, loop, onto, Fun, Item, declared, defined}
+use Rattle.c_tree.specs.declared.pieces.Piece.{Piece}
+use Rattle.c_tree.specs.declared.pieces.Piece.TheVariants as piece
+use Rattle.c_tree.specs.Code.{Code, done, assign, loop, Fun, Item, declared, defined}
 use Rattle.c_tree.specs.Names.{local_name, label_name, function_name}
-use Rattle.c_meaning.specs.Checked.{variables_of}
+use Rattle.c_tree.specs.Pieces.{pieces}
 use Rattle.plan_rules.specs.declared.rep.Rep.{Rep}
-use Rattle.plan_rules.specs.declared.rep.Rep.TheVariants.{Obj, Long}
-use Rattle.plan_rules.specs.Representation.{c_type_of, has_of, operation, call_of, local, fixnum_expr, Step, Keep, Make, step}
-use Rattle.plan_rules.specs.Translation.{Name, Fresh, IsLocal, Coerced, Fits, AllFit, Miscounted, haves, objects, is_counted, into, back}
+use Rattle.plan_rules.specs.declared.rep.Rep.TheVariants.{Obj, Bool as Truth_rep}
+use Rattle.plan_rules.specs.Representation.{c_type_of, has_of, operation, call_of, local, condition, Step, Keep, Make, Refuse, step}
+use Rattle.plan_rules.specs.Translation.{Name, Fresh, IsLocal, Place, Coerced, Fits, Refused, AllFit, Miscounted, haves, objects, is_counted, into, back, deliver}
 use Rattle.code_gen.specs.Scopes.{words}
 use Rattle.code_gen.specs.Settings.{Setting, scope_in, TrIn, TrUnusedIn, TrArgumentsIn}
+use Rattle.code_gen.specs.declared.coercions.Coercion.{Coercion}
+use Rattle.code_gen.specs.declared.coercions.Coercion.TheVariants as coercion
 use Rattle.code_gen.specs.declared.emitter.Emitter.{Emitter}
 use Rattle.code_gen.specs.declared.emitter.Held.{Held}
+use Rattle.code_gen.specs.declared.emitter.Place.{Place as Target}
+use Rattle.code_gen.specs.declared.emitter.Place.TheVariants.{Into, Back}
 
-abbrev pub op_of : Step → Option Op
-op_of Keep = None
-op_of (Make op) = Some op
+abbrev pub step_of : Coercion → Step
+step_of coercion.Keep = Keep
+step_of (coercion.Make op) = Make op
+step_of coercion.Refuse = Refuse
 
-abbrev pub coercion_of : Ty → Rep → Option Op
-coercion_of t h = op_of (step t h)
+-- types that parameters have
+abbrev pub AreParameters : List Ty → Type 0
+AreParameters types = IsTrue (list_all is_parameter_type types)
 
--- a constant in a representation
-abbrev pub constant_expr : Rep → Const → CExpr
-constant_expr h (Int n) = fixnum_expr h n
+abbrev pub place_of : Target → Place
+place_of (Into x) = into (local_name x)
+place_of Back = back
+
+-- the statement by which a value goes to a place
+abbrev pub piece_to : Target → CExpr → Piece
+piece_to (Into x) e = piece.Assign (local_name x) e
+piece_to Back e = piece.Return e
 
 -- Names -------------------------------------------------------------------------------------
 
@@ -63,35 +73,39 @@ held_names held = map (λ h. local_name h.local) held
 -- Steps -------------------------------------------------------------------------------------
 
 pub record IsFresh (s : Emitter) (next : ℕ) : Type 0 where
-  pub stmts : s.stmts ≡ []
+  pub pieces_are : s.pieces ≡ []
   pub locals : s.locals ≡ []
   pub next_is : s.next ≡ next
 
 pub record AddsLocal (s t : Emitter) (h : Rep) (x : ℕ) : Type 0 where
-  pub stmts : t.stmts ≡ s.stmts
+  pub pieces_are : t.pieces ≡ s.pieces
   pub locals : t.locals ≡ s.locals ++ record { ty = c_type_of h; name = local_name x } ∷ []
   pub number : x ≡ s.next
   pub next_is : t.next ≡ suc x
   pub small : x < 2 ^ 32
 
-pub record Puts (s t : Emitter) (stmt : CStmt) : Type 0 where
-  pub stmts : t.stmts ≡ s.stmts ++ stmt ∷ []
+pub record Puts (s t : Emitter) (one : Piece) : Type 0 where
+  pub pieces_are : t.pieces ≡ s.pieces ++ one ∷ []
   pub locals : t.locals ≡ s.locals
   pub next_is : t.next ≡ s.next
 
--- code in front of a rest, which the statements added since then are
-pub record Written (before after : List CStmt) (means : Code → Type 0) (rest : Code) : Type 0 where
-  pub code : Code
-  pub is : onto after rest ≡ onto before code
-  pub meant : means code
-
--- from one state to another, code that is related to what follows it
-pub record Emits (s t : Emitter) (means : List CVar → Code → Code → Type 0) : Type 0 where
+-- locals are added, in order
+pub record Grows (s t : Emitter) : Type 0 where
   pub later : s.next ≤ t.next
   pub small : s.next ≤ 2 ^ 32 → t.next ≤ 2 ^ 32
   pub counted : (first : ℕ) → AreCounted s.locals first s.next → AreCounted t.locals first t.next
   pub kept : (vars : List CVar) → AreLocals vars t.locals → AreLocals vars s.locals
-  pub code : (vars : List CVar) → AreLocals vars t.locals → (rest : Code) → Written s.stmts t.stmts (λ code. means vars code rest) rest
+
+-- code in front of a rest, which the pieces added since then are
+pub record Written (before after : List Piece) (means : Code → Type 0) (rest : Code) : Type 0 where
+  pub code : Code
+  pub is : (out : List Piece) → before ++ pieces code out ≡ after ++ pieces rest out
+  pub meant : means code
+
+-- from one state to another, code that is related to what follows it
+pub record Emits (s t : Emitter) (means : List CVar → Code → Code → Type 0) : Type 0 where
+  pub grows : Grows s t
+  pub code : (vars : List CVar) → AreLocals vars t.locals → (rest : Code) → Written s.pieces t.pieces (λ code. means vars code rest) rest
 
 -- a value that is put into a new local
 pub record Stores (s t : Emitter) (h : Rep) (e : CExpr) (held : Held) : Type 0 where
@@ -122,10 +136,21 @@ pub record IsValue (w : Setting) (s t : Emitter) (n : Tree) (wanted : Rep) (held
   pub below : held.local < t.next
   pub emits : Emits s t (λ vars code rest. Gives w n (has_of (scope_in w) n wanted) s.next held.local vars code rest)
 
+-- what a test's value is made, to choose by
+pub record IsTested (w : Setting) (s t : Emitter) (n : Tree) (e : CExpr) : Type 0 where
+  pub number : ℕ
+  pub is : e ≡ condition (has_of (scope_in w) n Truth_rep) (local_name number)
+  pub emits : Emits s t (λ vars code rest. Gives w n (has_of (scope_in w) n Truth_rep) s.next number vars code rest)
+
 pub record AreArguments (w : Setting) (s t : Emitter) (types : List Ty) (ns : Trees) (held : List Held) : Type 0 where
   pub below : AreBelow t.next (held_names held)
   pub reps : haves (scope_in w) types ns ≡ map (λ h. h.rep) held
   pub emits : Emits s t (λ vars code rest. (live : List Name) → AreBelow s.next live → TrArgumentsIn w vars types ns live (held_names held) code rest)
+
+-- the error of a type is raised
+pub record IsRefused (s t : Emitter) (type : Ty) (made : ℕ) : Type 0 where
+  pub below : made < t.next
+  pub emits : Emits s t (λ vars code rest. (live : List Name) → AreBelow s.next live → Refused vars type live code (local_name made) rest)
 
 pub record IsFitted (s t : Emitter) (type : Ty) (held : Held) (made : ℕ) : Type 0 where
   pub below : AreBelow t.next (local_name made ∷ [])
@@ -175,30 +200,44 @@ pub record IsOwnCall (w : Setting) (s t : Emitter) (g : GlobalRef) (ns : Trees) 
 pub record IsUnused (w : Setting) (s t : Emitter) (n : Tree) : Type 0 where
   pub emits : Emits s t (λ vars code rest. (live : List Name) → AreBelow s.next live → TrUnusedIn w vars n live code rest)
 
-abbrev pub Returned : Setting → Tree → List Name → List CVar → Code → Code → Type 0
-Returned w n live vars code rest = Coerced vars (has_of (scope_in w) n Obj) Obj (λ place code rest. TrIn w vars n (has_of (scope_in w) n Obj) live place code rest) live back code rest
+-- a node's value goes to a place, as a word
+abbrev pub Delivered : Setting → Tree → List Name → List CVar → Place → Code → Code → Type 0
+Delivered w n live vars place code rest = Coerced vars (has_of (scope_in w) n Obj) Obj (λ place code rest. TrIn w vars n (has_of (scope_in w) n Obj) live place code rest) live place code rest
 
-pub record IsReturned (w : Setting) (s t : Emitter) (n : Tree) : Type 0 where
-  pub emits : Emits s t (λ vars code rest. (live : List Name) → AreBelow s.next live → Returned w n live vars code rest)
+pub record IsDelivered (w : Setting) (s t : Emitter) (n : Tree) (to : Target) : Type 0 where
+  pub emits : Emits s t (λ vars code rest. (live : List Name) → AreBelow s.next live → Delivered w n live vars (place_of to) code rest)
 
--- a call's number, boxed and returned
-pub record GivesBoxed (s t : Emitter) (c : CCall) : Type 0 where
-  pub local_is : ℕ
-  pub emits : Emits s t (λ vars code rest.
-      IsLocal vars (local_name local_is) (c_type_of Long) × (code ≡ assign (local_name local_is) (expr.Call c) (return (expr.Call (operation BoxLong (local (local_name local_is) ∷ []))) rest)))
-  pub small : local_is < 2 ^ 32
-  pub number : local_is ≡ s.next
+-- what a call gives goes to a place, as a word
+pub record GivesWord (s t : Emitter) (h : Rep) (c : CCall) (to : Target) : Type 0 where
+  pub emits : Emits s t (λ vars code rest. (live : List Name) → AreBelow s.next live → Coerced vars h Obj (λ place code rest. code ≡ deliver place (expr.Call c) rest) live (place_of to) code rest)
 
 pub record IsBodyOf (w : Setting) (s t : Emitter) (n : Tree) : Type 0 where
   pub emits : Emits s t (λ vars code rest. (live : List Name) → AreBelow s.next live → TrIn w vars n Obj live back code rest)
 
 -- Functions ---------------------------------------------------------------------------------
 
-abbrev pub setting_of : ModuleTree → FunctionTree → Setting
-setting_of m f = record { module_name = m.name; functions = m.functions; params = f.params }
-
 abbrev pub word_names : List VarId → List Name
 word_names params = map (λ v. v.name) (words 0 params)
+
+-- the parameters, and then the locals that were added
+abbrev pub variables_with : List VarId → List CVar → List CVar
+variables_with params locals = words 0 params ++ locals
+
+-- all of a function's statements are there
+pub record IsLooped (w : Setting) (n : Tree) (s : Emitter) : Type 0 where
+  pub small : s.next ≤ 2 ^ 32
+  pub counted : AreCounted s.locals (length w.params) s.next
+  pub code : Code
+  pub is : s.pieces ≡ pieces (loop (label_name 0) code done) []
+  pub translated : TrIn w (variables_with w.params s.locals) n Obj (word_names w.params) back code done
+
+-- the pieces of some code
+pub record ArePieces (ps : List Piece) : Type 0 where
+  pub code : Code
+  pub are : ps ≡ pieces code []
+
+abbrev pub setting_of : ModuleTree → FunctionTree → Setting
+setting_of m f = record { module_name = m.name; functions = m.functions; params = f.params }
 
 pub record IsFunctionOf (m : ModuleTree) (f : FunctionTree) (g : Fun) : Type 0 where
   pub name_is : g.name ≡ function_name m.name f.name
@@ -209,7 +248,7 @@ pub record IsFunctionOf (m : ModuleTree) (f : FunctionTree) (g : Fun) : Type 0 w
   pub counted : AreCounted g.locals (length f.params) last
   pub code : Code
   pub looped : g.code ≡ loop (label_name 0) code done
-  pub translated : AreLocals (variables_of g) g.locals → TrIn (setting_of m f) (variables_of g) f.body Obj (word_names f.params) back code done
+  pub translated : TrIn (setting_of m f) (variables_with f.params g.locals) f.body Obj (word_names f.params) back code done
 
 -- Units -------------------------------------------------------------------------------------
 

@@ -1,9 +1,8 @@
 ghost use Rattle.std.specs.Prelude.{◌≡◌, IfOk, OnOk};
-ghost use Rattle.c_tree.specs.Names.{local_name};
-ghost use Rattle.code_gen.specs.Emission.{IsFresh, AddsLocal, Puts, Stores, LeavesUnset};
+ghost use Rattle.code_gen.specs.Emission.{IsFresh, AddsLocal, Puts, Stores, LeavesUnset, piece_to};
 
 use crate::parts::c_type;
-use c_tree::{CCall, CExpr, CStmt, CVar, local_name_text};
+use c_tree::{CExpr, CVar, Piece, local_name_text};
 use plan_rules::Rep;
 use scheme_data::{List, OutOfMemory};
 use std::alloc::Global;
@@ -15,11 +14,18 @@ pub struct Held {
     pub rep: Rep,
 }
 
-/// A function that is being written: its statements, its locals, and the number of the next local.
+/// Where a value goes: into the local of a number, or back from the function.
+#[derive(Clone, Copy, Debug)]
+pub enum Place {
+    Into(u32),
+    Back,
+}
+
+/// A function that is being written: the pieces of its statements, its locals, and the number of the next local.
 #[derive(Drop)]
 pub struct Emitter {
     pub alloc: Global,
-    pub stmts: List<CStmt>,
+    pub pieces: List<Piece>,
     pub locals: List<CVar>,
     pub next: u32,
 }
@@ -31,7 +37,7 @@ impl Emitter {
     {
         Emitter {
             alloc,
-            stmts: List::new(alloc),
+            pieces: List::new(alloc),
             locals: List::new(alloc),
             next,
         }
@@ -52,11 +58,24 @@ impl Emitter {
         Ok(number)
     }
 
-    fn assign(&mut self, x: u32, value: CExpr) -> Result<(), OutOfMemory>
-        ensures { OnOk result (Puts self.old self.new (CStmt.Assign (local_name x) value)) }
+    /// One piece more.
+    pub fn put(&mut self, piece: Piece) -> Result<(), OutOfMemory>
+        ensures { OnOk result (Puts self.old self.new piece) }
     {
-        let name = local_name_text(self.alloc, x)?;
-        self.stmts.push(CStmt::Assign(name, value))
+        self.pieces.push(piece)
+    }
+
+    /// A value goes to a place.
+    pub fn deliver(&mut self, place: Place, value: CExpr) -> Result<(), OutOfMemory>
+        ensures { OnOk result (Puts self.old self.new (piece_to place value)) }
+    {
+        match place {
+            Place::Into(x) => {
+                let name = local_name_text(self.alloc, x)?;
+                self.put(Piece::Assign(name, value))
+            }
+            Place::Back => self.put(Piece::Return(value)),
+        }
     }
 
     /// A value in a new local.
@@ -64,27 +83,15 @@ impl Emitter {
         ensures { IfOk result (λ held. Stores self.old self.new rep value held) }
     {
         let local = self.local(rep)?;
-        self.assign(local, value)?;
+        self.deliver(Place::Into(local), value)?;
         Ok(Held { local, rep })
     }
 
-    /// A new local for a value that never comes.
+    /// A new local without a value.
     pub fn unset(&mut self, rep: Rep) -> Result<Held, OutOfMemory>
         ensures { IfOk result (λ held. LeavesUnset self.old self.new rep held) }
     {
         let local = self.local(rep)?;
         Ok(Held { local, rep })
-    }
-
-    pub fn call(&mut self, call: CCall) -> Result<(), OutOfMemory>
-        ensures { OnOk result (Puts self.old self.new (CStmt.Call call)) }
-    {
-        self.stmts.push(CStmt::Call(call))
-    }
-
-    pub fn give(&mut self, value: CExpr) -> Result<(), OutOfMemory>
-        ensures { OnOk result (Puts self.old self.new (CStmt.Return value)) }
-    {
-        self.stmts.push(CStmt::Return(value))
     }
 }

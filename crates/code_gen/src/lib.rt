@@ -1,6 +1,10 @@
 //! Generates the C unit of a module: a translation of it.
 #![tactic(auto)]
 
+mod bodies;
+mod branches;
+mod calls;
+mod coercions;
 mod context;
 mod emitter;
 mod generate;

@@ -1,11 +1,15 @@
 // What a representation, a primitive and a value are in C.
-ghost use Rattle.std.specs.Prelude.{◌≡◌, ◌∷◌, [], ◌++◌, IfOk, map, option_copied, Option, Some, None};
+ghost use Rattle.std.specs.Prelude.{◌≡◌, ◌∷◌, [], ◌++◌, IfOk, map, Some};
 ghost use Rattle.prim_table.specs.declared.primitives.Ty.TheVariants.{Obj};
-ghost use Rattle.prim_table.specs.Table.{params_of, result_of};
+ghost use Rattle.prim_table.specs.Table.{params_of, result_of, type_name};
 ghost use Rattle.c_tree.specs.Names.{local_name};
-ghost use Rattle.plan_rules.specs.Representation.{rep_of, c_type_of, operation, raise_count, local};
-ghost use Rattle.code_gen.specs.Emission.{coercion_of, constant_expr};
+ghost use Rattle.plan_rules.specs.declared.rep.Rep.TheVariants.{Obj as Word};
+ghost use Rattle.c_tree.specs.declared.op.Op.TheVariants.{Raise};
+ghost use Rattle.c_tree.specs.declared.tree.CAtom.TheVariants.{Int};
+ghost use Rattle.c_tree.specs.declared.tree.CArg.TheVariants.{Atom, Str};
+ghost use Rattle.plan_rules.specs.Representation.{truth_atom, rep_of, c_type_of, own_rep, constant_rep, constant_expr, condition, operation, raise_count, raise_type, local};
 
+use crate::emitter::Held;
 use c_tree::{CArg, CAtom, CCall, CExpr, CTy, Callee, Op, local_name_text};
 use core_tree::{Const, Node};
 use plan_rules::Rep;
@@ -19,6 +23,7 @@ pub fn rep(ty: Ty) -> Rep
     match ty {
         Ty::Obj => Rep::Obj,
         Ty::Long => Rep::Long,
+        Ty::Bool => Rep::Bool,
     }
 }
 
@@ -28,6 +33,7 @@ pub fn c_type(rep: Rep) -> CTy
     match rep {
         Rep::Obj => CTy::Obj,
         Rep::Long => CTy::Long,
+        Rep::Bool => CTy::Int,
     }
 }
 
@@ -35,7 +41,7 @@ pub fn param_types(p: Primitive) -> &'static [Ty]
     ensures { result.now ≡ params_of p }
 {
     match p {
-        Primitive::Add => &[Ty::Long, Ty::Long],
+        Primitive::Add | Primitive::Less => &[Ty::Long, Ty::Long],
         Primitive::Display => &[Ty::Obj],
         Primitive::Newline => &[],
     }
@@ -46,18 +52,8 @@ pub fn result_type(p: Primitive) -> Ty
 {
     match p {
         Primitive::Add => Ty::Long,
+        Primitive::Less => Ty::Bool,
         Primitive::Display | Primitive::Newline => Ty::Obj,
-    }
-}
-
-/// What makes a value fit a type; none where it fits.
-pub fn coercion(ty: Ty, rep: Rep) -> Option<Op>
-    ensures { result ≡ coercion_of ty rep }
-{
-    match (ty, rep) {
-        (Ty::Obj, Rep::Long) => Some(Op::BoxLong),
-        (Ty::Long, Rep::Obj) => Some(Op::UnboxLong),
-        _ => None,
     }
 }
 
@@ -79,6 +75,19 @@ pub fn local_expr(alloc: Global, x: u32) -> Result<CExpr, OutOfMemory>
     Ok(CExpr::Atom(CAtom::Name(local_name_text(alloc, x)?)))
 }
 
+// The call that raises an error with a text.
+fn raise(alloc: Global, error: i64, text: Text) -> Result<CCall, OutOfMemory>
+    ensures { IfOk result (λ c. c ≡ operation Raise (Atom (Int error) ∷ Str text ∷ [])) }
+{
+    let mut args = List::new(alloc);
+    args.push(CArg::Atom(CAtom::Int(error)))?;
+    args.push(CArg::Str(text))?;
+    Ok(CCall {
+        callee: Callee::Op(Op::Raise),
+        args,
+    })
+}
+
 /// The call that raises error 2, where so many arguments are wanted. A number past `i64` counts as want of memory.
 pub fn raise_count(alloc: Global, want: usize) -> Result<CCall, OutOfMemory>
     ensures { IfOk result (λ c. c ≡ raise_count want) }
@@ -86,13 +95,25 @@ pub fn raise_count(alloc: Global, want: usize) -> Result<CCall, OutOfMemory>
     let number = i64::try_from(want).map_err(|_| OutOfMemory)?;
     let mut text = Text::new(alloc);
     push_number(&mut text, number)?;
-    let mut args = List::new(alloc);
-    args.push(CArg::Atom(CAtom::Int(2)))?;
-    args.push(CArg::Str(text))?;
-    Ok(CCall {
-        callee: Callee::Op(Op::Raise),
-        args,
-    })
+    raise(alloc, 2, text)
+}
+
+fn type_name(ty: Ty) -> &'static [u8]
+    ensures { result.now ≡ type_name ty }
+{
+    match ty {
+        Ty::Obj => b"obj",
+        Ty::Long => b"long",
+        Ty::Bool => b"bool",
+    }
+}
+
+/// The call that raises error 1, where a type is wanted.
+pub fn raise_type(alloc: Global, ty: Ty) -> Result<CCall, OutOfMemory>
+    ensures { IfOk result (λ c. c ≡ raise_type ty) }
+{
+    let text = Text::from_bytes(alloc, type_name(ty))?;
+    raise(alloc, 1, text)
 }
 
 pub fn local_arg(alloc: Global, x: u32) -> Result<CArg, OutOfMemory>
@@ -130,13 +151,60 @@ pub fn made_from(alloc: Global, op: Op, x: u32) -> Result<CExpr, OutOfMemory>
     call_on(alloc, op, arg)
 }
 
-/// A constant in a representation.
-pub fn constant(alloc: Global, rep: Rep, c: Const) -> Result<CExpr, OutOfMemory>
-    ensures { IfOk result (λ e. e ≡ constant_expr rep c) }
+/// A constant as a word.
+pub fn word(alloc: Global, c: Const) -> Result<CExpr, OutOfMemory>
+    ensures { IfOk result (λ e. constant_expr c Word ≡ Some e) }
 {
-    let Const::Int(n) = c;
-    match rep {
-        Rep::Obj => call_on(alloc, Op::BoxLong, CArg::Atom(CAtom::Int(n))),
-        Rep::Long => Ok(CExpr::Atom(CAtom::Int(n))),
+    match c {
+        Const::Int(n) => call_on(alloc, Op::BoxLong, CArg::Atom(CAtom::Int(n))),
+        Const::Bool(b) => Ok(CExpr::Atom(truth(b))),
+    }
+}
+
+fn truth(b: bool) -> CAtom
+    ensures { result ≡ truth_atom b }
+{
+    if b { CAtom::True } else { CAtom::False }
+}
+
+// A constant as what it is.
+fn itself(c: Const) -> CExpr
+    ensures { constant_expr c (own_rep c) ≡ Some result }
+{
+    match c {
+        Const::Int(n) => CExpr::Atom(CAtom::Int(n)),
+        Const::Bool(b) => CExpr::Atom(CAtom::Int(if b { 1 } else { 0 })),
+    }
+}
+
+/// How a constant comes, where a representation is wanted.
+pub fn constant_rep(c: Const, wanted: Rep) -> Rep
+    ensures { result ≡ constant_rep c wanted }
+{
+    match (wanted, c) {
+        (Rep::Obj, _) => Rep::Obj,
+        (_, Const::Int(_)) => Rep::Long,
+        (_, Const::Bool(_)) => Rep::Bool,
+    }
+}
+
+/// A constant as it comes, where a representation is wanted.
+pub fn constant(alloc: Global, c: Const, wanted: Rep) -> Result<CExpr, OutOfMemory>
+    ensures { IfOk result (λ e. constant_expr c (constant_rep c wanted) ≡ Some e) }
+{
+    match wanted {
+        Rep::Obj => word(alloc, c),
+        Rep::Long | Rep::Bool => Ok(itself(c)),
+    }
+}
+
+/// The condition by which a test's value chooses.
+pub fn condition(alloc: Global, test: Held) -> Result<CExpr, OutOfMemory>
+    ensures { IfOk result (λ e. e ≡ condition test.rep (local_name test.local)) }
+{
+    match test.rep {
+        Rep::Obj => made_from(alloc, Op::Truth, test.local),
+        Rep::Long => Ok(CExpr::Atom(CAtom::Int(1))),
+        Rep::Bool => local_expr(alloc, test.local),
     }
 }

@@ -6,11 +6,13 @@ ghost use Rattle.core_tree.specs.WellFormed.{IsWellFormed};
 ghost use Rattle.code_gen.specs.Settings.{Setting, IsNode, AreNodes, IsBodyIn};
 
 use crate::generate_unit;
-use c_tree::{CArg, CAtom, CBody, CCall, CExpr, CFun, CItem, CStmt, CTy, CUnit, Callee, op_name};
+use c_tree::{
+    CArg, CAtom, CCall, CExpr, CFun, CItem, CStmt, CTy, CUnit, Callee, PieceRef, op_name, pieces_in,
+};
 use core_tree::{Const, GlobalRef, Lambda, Module, Node, Top, VarId};
 use prim_table::Primitive;
 use scheme_data::{List, OutOfMemory, Text, push_number};
-use sqlite_items::Items;
+use sqlite_items::{Boxed, Items};
 use std::alloc::Global;
 
 // Nodes below have their place in a function whose only parameter is the variable 0, of a module with two functions.
@@ -20,6 +22,12 @@ fn number(n: i64) -> Node
     ensures { (w : Setting) → 2 ≤ length w.functions → w.params ≡ record { 0 = 0 } ∷ [] → IsNode w (tree result) }
 {
     Node::Constant(Const::Int(n))
+}
+
+fn truth(b: bool) -> Node
+    ensures { (w : Setting) → 2 ≤ length w.functions → w.params ≡ record { 0 = 0 } ∷ [] → IsNode w (tree result) }
+{
+    Node::Constant(Const::Bool(b))
 }
 
 fn parameter() -> Node
@@ -57,6 +65,29 @@ fn add(alloc: Global, a: Node, b: Node) -> Result<Node, OutOfMemory>
     args.push(a)?;
     args.push(b)?;
     Ok(Node::Primitive(Primitive::Add, args))
+}
+
+fn less(alloc: Global, a: Node, b: Node) -> Result<Node, OutOfMemory>
+    requires first { (w : Setting) → 2 ≤ length w.functions → w.params ≡ record { 0 = 0 } ∷ [] → IsNode w (tree a) }
+    requires second { (w : Setting) → 2 ≤ length w.functions → w.params ≡ record { 0 = 0 } ∷ [] → IsNode w (tree b) }
+    ensures { IfOk result (λ n. (w : Setting) → 2 ≤ length w.functions → w.params ≡ record { 0 = 0 } ∷ [] → IsNode w (tree n)) }
+{
+    let mut args = Items::new(alloc);
+    args.push(a)?;
+    args.push(b)?;
+    Ok(Node::Primitive(Primitive::Less, args))
+}
+
+fn choose(alloc: Global, test: Node, first: Node, second: Node) -> Result<Node, OutOfMemory>
+    requires test_is { (w : Setting) → 2 ≤ length w.functions → w.params ≡ record { 0 = 0 } ∷ [] → IsNode w (tree test) }
+    requires first_is { (w : Setting) → 2 ≤ length w.functions → w.params ≡ record { 0 = 0 } ∷ [] → IsNode w (tree first) }
+    requires second_is { (w : Setting) → 2 ≤ length w.functions → w.params ≡ record { 0 = 0 } ∷ [] → IsNode w (tree second) }
+    ensures { IfOk result (λ n. (w : Setting) → 2 ≤ length w.functions → w.params ≡ record { 0 = 0 } ∷ [] → IsNode w (tree n)) }
+{
+    let test = Boxed::new(alloc, test)?;
+    let first = Boxed::new(alloc, first)?;
+    let second = Boxed::new(alloc, second)?;
+    Ok(Node::If(test, first, second))
 }
 
 fn display(alloc: Global, a: Node) -> Result<Node, OutOfMemory>
@@ -136,6 +167,8 @@ fn write_atom(out: &mut Text, a: &CAtom) -> Result<(), OutOfMemory> {
     match a {
         CAtom::Int(n) => push_number(out, *n),
         CAtom::Name(x) => out.extend(x.as_bytes()),
+        CAtom::True => out.extend(b"BGL_TRUE"),
+        CAtom::False => out.extend(b"BGL_FALSE"),
         _ => out.extend(b"?"),
     }
 }
@@ -172,39 +205,65 @@ fn write_statement(out: &mut Text, s: &CStmt) -> Result<(), OutOfMemory> {
             out.extend(x.as_bytes())?;
             out.push(b'=')?;
             write_expr(out, e)?;
+            out.push(b';')
         }
-        CStmt::Call(c) => write_call(out, c)?,
+        CStmt::Call(c) => {
+            write_call(out, c)?;
+            out.push(b';')
+        }
         CStmt::Return(e) => {
             out.extend(b"return ")?;
             write_expr(out, e)?;
+            out.push(b';')
+        }
+        CStmt::If(e, _, _) => {
+            out.extend(b"if ")?;
+            write_expr(out, e)?;
+            out.push(b'{')
+        }
+        CStmt::Loop(label, _) => {
+            out.extend(label.as_bytes())?;
+            out.extend(b":{")
         }
     }
-    out.push(b';')
+}
+
+fn write_piece(out: &mut Text, piece: PieceRef<'_>) -> Result<(), OutOfMemory> {
+    match piece {
+        PieceRef::Statement(s) => write_statement(out, s),
+        PieceRef::Else => out.extend(b"}else{"),
+        PieceRef::End => out.push(b'}'),
+    }
+}
+
+fn type_text(ty: CTy) -> &'static [u8] {
+    match ty {
+        CTy::Obj => b"obj ",
+        CTy::Long => b"long ",
+        CTy::Char => b"char ",
+        CTy::Int => b"int ",
+    }
 }
 
 fn write_locals(out: &mut Text, f: &CFun) -> Result<(), OutOfMemory> {
     for v in f.locals.as_slice() {
-        out.extend(if v.ty == CTy::Long { b"long " } else { b"obj " })?;
+        out.extend(type_text(v.ty))?;
         out.extend(v.name.as_bytes())?;
         out.push(b';')?;
     }
     Ok(())
 }
 
-fn write_body(out: &mut Text, body: &CBody) -> Result<(), OutOfMemory> {
-    let CBody::Looped(label, statements) = body else {
-        return Ok(());
-    };
-    out.extend(label.as_bytes())?;
-    out.push(b':')?;
-    for s in statements.as_slice() {
-        write_statement(out, s)?;
+fn write_body(alloc: Global, out: &mut Text, f: &CFun) -> Result<(), OutOfMemory> {
+    let pieces = pieces_in(alloc, f)?;
+    for piece in pieces.as_slice() {
+        write_piece(out, *piece)?;
     }
     Ok(())
 }
 
-// The name, the number of parameters, the locals, the label and the statements of a definition, or the head of a declaration.
-fn write_item(out: &mut Text, item: &CItem) -> Result<(), OutOfMemory> {
+// The name, the locals and the statements of a definition, or the name of a declaration and the number of its parameters.
+fn write_item(alloc: Global, out: &mut Text, item: &CItem) -> Result<(), OutOfMemory> {
     match item {
         CItem::Declared(_, name, params) => {
             out.extend(name.as_bytes())?;
@@ -216,7 +275,7 @@ fn write_item(out: &mut Text, item: &CItem) -> Result<(), OutOfMemory> {
             out.extend(f.name.as_bytes())?;
             out.push(b':')?;
             write_locals(out, f)?;
-            write_body(out, &f.body)
+            write_body(alloc, out, f)
         }
     }
 }
@@ -226,7 +285,7 @@ fn outline(alloc: Global, u: &CUnit, first: u64, end: u64) -> Result<Text, OutOf
     let mut out = Text::new(alloc);
     for i in first..end {
         if let Some(item) = u.items.get(i) {
-            write_item(&mut out, item)?;
+            write_item(alloc, &mut out, item)?;
         }
     }
     Ok(out)
@@ -245,10 +304,7 @@ fn counts(u: &CUnit) -> (u64, u64) {
     let Some(CItem::Defined(f)) = u.items.get(2) else {
         return (0, 0);
     };
-    let CBody::Looped(_, statements) = &f.body else {
-        return (0, 0);
-    };
-    (f.locals.len(), statements.len())
+    (f.locals.len(), f.stmts.len())
 }
 
 #[test]
@@ -258,7 +314,7 @@ fn all_functions_are_declared_before_they_are_defined(rt: HostRuntime) -> Result
     let text = outline(alloc, &unit, 0, 9)?;
     assert_eq!(rt;
         text.as_bytes(),
-        b"f_hello__go/1;f_hello__sum/2;f_hello__go:L0:return bgl_box_long -7;f_hello__sum:obj x2;obj x3;long x4;long x5;long x6;L0:x2=x0;x3=x1;x4=bgl_unbox_long x2;x5=bgl_unbox_long x3;x6=bgl_p__2b x4 x5;return bgl_box_long x6;".as_slice()
+        b"f_hello__go/1;f_hello__sum/2;f_hello__go:L0:{return bgl_box_long -7;}f_hello__sum:obj x2;obj x3;long x4;long x5;long x6;L0:{x2=x0;x3=x1;x4=bgl_unbox_long x2;x5=bgl_unbox_long x3;x6=bgl_p__2b x4 x5;return bgl_box_long x6;}".as_slice()
     );
     Ok(())
 }
@@ -272,7 +328,7 @@ fn a_sum_is_boxed_and_displayed_and_the_last_value_returned(
     let text = written(alloc, shown, newline(alloc))?;
     assert_eq!(rt;
         text.as_bytes(),
-        b"f_hello__go:long x1;long x2;long x3;obj x4;L0:x1=40;x2=2;x3=bgl_p__2b x1 x2;x4=bgl_box_long x3;bgl_p_display x4;return bgl_p_newline;".as_slice()
+        b"f_hello__go:long x1;long x2;long x3;obj x4;L0:{x1=40;x2=2;x3=bgl_p__2b x1 x2;x4=bgl_box_long x3;bgl_p_display x4;return bgl_p_newline;}".as_slice()
     );
     Ok(())
 }
@@ -284,7 +340,7 @@ fn a_word_is_unboxed_for_a_sum_and_the_sum_boxed(rt: HostRuntime) -> Result<(), 
     let text = written(alloc, newline(alloc), sum)?;
     assert_eq!(rt;
         text.as_bytes(),
-        b"f_hello__go:obj x1;obj x2;long x3;long x4;long x5;L0:bgl_p_newline;x1=bgl_box_long 1;x2=bgl_p_display x1;x3=2;x4=bgl_unbox_long x2;x5=bgl_p__2b x4 x3;return bgl_box_long x5;".as_slice()
+        b"f_hello__go:obj x1;obj x2;long x3;long x4;long x5;L0:{bgl_p_newline;x1=bgl_box_long 1;x2=bgl_p_display x1;x3=2;x4=bgl_unbox_long x2;x5=bgl_p__2b x4 x3;return bgl_box_long x5;}".as_slice()
     );
     Ok(())
 }
@@ -298,7 +354,7 @@ fn a_call_takes_arguments_from_the_left_and_a_number_is_boxed(
     let text = written(alloc, parameter(), call(1, args))?;
     assert_eq!(rt;
         text.as_bytes(),
-        b"f_hello__go:long x1;long x2;long x3;obj x4;obj x5;L0:x1=1;x2=2;x3=bgl_p__2b x1 x2;x4=x0;x5=bgl_box_long x3;return f_hello__sum x5 x4;".as_slice()
+        b"f_hello__go:long x1;long x2;long x3;obj x4;obj x5;L0:{x1=1;x2=2;x3=bgl_p__2b x1 x2;x4=x0;x5=bgl_box_long x3;return f_hello__sum x5 x4;}".as_slice()
     );
     Ok(())
 }
@@ -311,7 +367,7 @@ fn a_function_calls_itself_and_its_parameter_is_returned(
     let text = written(alloc, call(0, one(alloc, parameter())?), parameter())?;
     assert_eq!(rt;
         text.as_bytes(),
-        b"f_hello__go:obj x1;L0:x1=x0;f_hello__go x1;return x0;".as_slice()
+        b"f_hello__go:obj x1;L0:{x1=x0;f_hello__go x1;return x0;}".as_slice()
     );
     Ok(())
 }
@@ -326,7 +382,61 @@ fn a_wrong_number_of_arguments_is_an_error_after_they_are_evaluated(
     let text = written(alloc, number(1), last)?;
     assert_eq!(rt;
         text.as_bytes(),
-        b"f_hello__go:obj x1;obj x2;obj x3;L0:x1=x0;x2=bgl_p_newline;bgl_raise 2 \"2\";bgl_raise 2 \"1\";".as_slice()
+        b"f_hello__go:obj x1;obj x2;obj x3;L0:{x1=x0;x2=bgl_p_newline;bgl_raise 2 \"2\";bgl_raise 2 \"1\";}".as_slice()
+    );
+    Ok(())
+}
+
+#[test]
+fn blocks_that_nobody_takes_are_unused_and_blocks_at_the_end_return(
+    rt: HostRuntime,
+) -> Result<(), OutOfMemory> {
+    let alloc = rt.alloc();
+    let ordered = less(alloc, number(1), number(2))?;
+    let first = choose(alloc, ordered, newline(alloc), number(5))?;
+    let last = choose(alloc, truth(true), truth(false), number(3))?;
+    let text = written(alloc, first, last)?;
+    assert_eq!(rt;
+        text.as_bytes(),
+        b"f_hello__go:long x1;long x2;int x3;int x4;L0:{x1=1;x2=2;x3=bgl_p__3c x1 x2;if x3{bgl_p_newline;}else{}x4=1;if x4{return BGL_FALSE;}else{return bgl_box_long 3;}}".as_slice()
+    );
+    Ok(())
+}
+
+#[test]
+fn both_blocks_of_an_argument_give_words_to_one_local(rt: HostRuntime) -> Result<(), OutOfMemory> {
+    let alloc = rt.alloc();
+    let ordered = less(alloc, number(1), number(2))?;
+    let sum = add(alloc, number(3), number(4))?;
+    let first = display(alloc, choose(alloc, parameter(), ordered, sum)?)?;
+    let last = add(
+        alloc,
+        choose(alloc, number(7), number(1), number(2))?,
+        truth(true),
+    )?;
+    let text = written(alloc, first, last)?;
+    assert_eq!(rt;
+        text.as_bytes(),
+        b"f_hello__go:obj x1;obj x2;long x3;long x4;int x5;long x6;long x7;long x8;obj x9;long x10;int x11;long x12;long x13;long x14;L0:{x2=x0;if bgl_truth x2{x3=1;x4=2;x5=bgl_p__3c x3 x4;x1=bgl_box_bool x5;}else{x6=3;x7=4;x8=bgl_p__2b x6 x7;x1=bgl_box_long x8;}bgl_p_display x1;x10=7;if 1{x9=bgl_box_long 1;}else{x9=bgl_box_long 2;}x11=1;x12=bgl_unbox_long x9;bgl_raise 1 \"long\";x13=0;x14=bgl_p__2b x12 x13;return bgl_box_long x14;}".as_slice()
+    );
+    Ok(())
+}
+
+#[test]
+fn an_if_may_be_a_test_and_a_block(rt: HostRuntime) -> Result<(), OutOfMemory> {
+    let alloc = rt.alloc();
+    let inner = choose(alloc, truth(false), number(1), truth(true))?;
+    let block = choose(
+        alloc,
+        parameter(),
+        call(1, one(alloc, number(1))?),
+        parameter(),
+    )?;
+    let last = choose(alloc, inner, block, parameter())?;
+    let text = written(alloc, newline(alloc), last)?;
+    assert_eq!(rt;
+        text.as_bytes(),
+        b"f_hello__go:obj x1;int x2;obj x3;obj x4;L0:{bgl_p_newline;x2=0;if x2{x1=bgl_box_long 1;}else{x1=BGL_TRUE;}if bgl_truth x1{x3=x0;if bgl_truth x3{x4=bgl_box_long 1;bgl_raise 2 \"2\";}else{return x0;}}else{return x0;}}".as_slice()
     );
     Ok(())
 }
@@ -346,6 +456,6 @@ fn sums_nest_199_deep(rt: HostRuntime) -> Result<(), OutOfMemory> {
     let alloc = rt.alloc();
     let sum = nested(alloc, 199)?;
     let unit = generate_unit(alloc, &module(alloc, newline(alloc), sum)?)?;
-    assert!(rt; counts(&unit) == (399, 401));
+    assert!(rt; counts(&unit) == (399, 402));
     Ok(())
 }

@@ -1,6 +1,6 @@
 use Rattle.std.proofs.Common.{◌≡◌, ◌<◌, length, get_or, sym, ◌∙◌, ap}
 use Rattle.core_tree.specs.Tree.{module_tree}
-use Rattle.c_tree.specs.Code.{items_of, fun_of}
+use Rattle.c_tree.specs.Functions.{items_of, fun_of}
 use Rattle.code_gen.proofs.Units.{adds_one, pushed_item, function_at}
 use Rattle.code_gen.proofs.generate.define_all.Goals as goal
 

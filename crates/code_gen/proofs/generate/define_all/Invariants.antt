@@ -1,6 +1,6 @@
 use Rattle.std.proofs.Common.{map, take}
 use Rattle.core_tree.specs.Tree.{module_tree, function_tree}
-use Rattle.c_tree.specs.Code.{items_of}
+use Rattle.c_tree.specs.Functions.{items_of}
 use Rattle.code_gen.specs.Emission.{AddsFunctions}
 use Rattle.code_gen.proofs.generate.define_all.Given as goal
 

@@ -5,7 +5,7 @@ use Rattle.core_tree.specs.Tree.{Tree, Sequence, trees, tree}
 use Rattle.code_gen.specs.Emission.{IsBodyOf}
 use Rattle.code_gen.proofs.Shapes.{tree-Sequence, body_parts, constant_no_body}
 use Rattle.code_gen.specs.Settings.{setting}
-use Rattle.code_gen.proofs.nodes.body.Goals as goal
+use Rattle.code_gen.proofs.bodies.body.Goals as goal
 
 pub sequence-requires-clause-some : goal.sequence-requires-clause-some
 sequence-requires-clause-some c = (body_parts (setting c.args.ctx.now) c.args.node.now c.in-Sequence.nodes c.as_slice.result.now c.in-Sequence.is c.as_slice.ensures c.requires).0

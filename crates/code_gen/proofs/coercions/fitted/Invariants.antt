@@ -1,5 +1,5 @@
 use Rattle.code_gen.proofs.Fitting.{Fitting}
-use Rattle.code_gen.proofs.nodes.fitted.Given as goal
+use Rattle.code_gen.proofs.coercions.fitted.Given as goal
 
 abbrev pub invariant-loop-i : goal.invariant-loop-i
 invariant-loop-i l = Fitting l.fn.e l.e l.types l.held l.made l.i

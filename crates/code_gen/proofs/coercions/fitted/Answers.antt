@@ -1,15 +1,18 @@
-use Rattle.std.proofs.Common.{sym, subst}
+use Rattle.std.proofs.Common.{sym, subst, arith}
 use Rattle.code_gen.proofs.Counts.{below_at, below_more}
-use Rattle.code_gen.proofs.Fitting.{Fitting, fitting_none, fitting_one, fitting_all}
+use Rattle.code_gen.proofs.Fitting.{Fitting, fitting_none, fitting_one, fitting_all, parameter_at}
 use Rattle.code_gen.specs.Emission.{held_names}
-use Rattle.code_gen.proofs.nodes.fitted.Goals as goal
+use Rattle.code_gen.proofs.coercions.fitted.Goals as goal
 
 pub loop-i-init : goal.loop-i-init
 loop-i-init c = subst (λ made. Fitting c.args.e.now c.args.e.now c.args.types.now c.args.held.now made 0) (sym c.new-made.ensures) (fitting_none c.args.e.now c.args.types.now c.args.held.now)
 
-pub fit-requires : goal.fit-requires
-fit-requires c = below_at c.loop-i.e.next c.args.held.now c.loop-i.i _ c.loop-i-test.true
-    (below_more c.args.e.now.next c.loop-i.e.next (held_names c.args.held.now) c.loop-i.invariant.emits.later c.requires.below)
+pub fit-requires-clause-parameter : goal.fit-requires-clause-parameter
+fit-requires-clause-parameter c = parameter_at c.args.types.now c.loop-i.i _ (omega arith) c.requires.parameters
+
+pub fit-requires-clause-below : goal.fit-requires-clause-below
+fit-requires-clause-below c = below_at c.loop-i.e.next c.args.held.now c.loop-i.i _ c.loop-i-test.true
+    (below_more c.args.e.now.next c.loop-i.e.next (held_names c.args.held.now) c.loop-i.invariant.emits.grows.later c.requires.below)
 
 pub loop-i-preserved : goal.loop-i-preserved
 loop-i-preserved c = fitting_one c.args.e.now c.loop-i.e c.fit.new.e c.args.types.now c.args.held.now c.loop-i.made c.loop-i.i c.in_ok-one.one _ _

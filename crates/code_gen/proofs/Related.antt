@@ -4,29 +4,30 @@ use Rattle.prim_table.specs.declared.primitives.Ty.{Ty}
 use Rattle.prim_table.specs.declared.primitives.Primitive.{Primitive as Builtin}
 use Rattle.prim_table.specs.Table.{params_of, result_of}
 use Rattle.core_tree.specs.declared.tree.Const.{Const}
-use Rattle.core_tree.specs.declared.tree.Const.TheVariants.{Int}
 use Rattle.core_tree.specs.declared.tree.VarId.{VarId}
 use Rattle.core_tree.specs.declared.tree.GlobalRef.{GlobalRef}
-use Rattle.core_tree.specs.Tree.{Constant, Variable, Call, Primitive, Trees, FunctionTree, function_of}
+use Rattle.core_tree.specs.Tree.{Tree, Constant, Variable, If, Call, Primitive, Trees, FunctionTree, function_of}
 use Rattle.c_tree.specs.declared.op.Op.TheVariants.{Primitive as Does}
 use Rattle.c_tree.specs.declared.tree.CArg.{CArg}
 use Rattle.c_tree.specs.declared.tree.CAtom.TheVariants as atom
 use Rattle.c_tree.specs.declared.tree.CCall.{CCall}
+use Rattle.c_tree.specs.declared.tree.CExpr.{CExpr}
 use Rattle.c_tree.specs.declared.tree.CExpr.TheVariants as expr
 use Rattle.c_tree.specs.declared.tree.CVar.{CVar}
-use Rattle.c_tree.specs.Code.{Code, call}
+use Rattle.c_tree.specs.Code.{Code, done, call}
 use Rattle.c_tree.specs.Names.{function_name}
 use Rattle.plan_rules.specs.declared.rep.Rep.{Rep}
-use Rattle.plan_rules.specs.declared.rep.Rep.TheVariants.{Obj}
-use Rattle.plan_rules.specs.Representation.{PlainAt, slot_of, rep_in, rep_of, has_of, operation, call_of}
-use Rattle.plan_rules.specs.Translation.{Name, Place, deliver, Applied, Miscounted, haves, objects, is_counted, TrVariable, TrVariableUnused, TrCounted, TrCall, Tr, TrUnused}
+use Rattle.plan_rules.specs.declared.rep.Rep.TheVariants.{Obj, Bool as Truth_rep}
+use Rattle.plan_rules.specs.Representation.{PlainAt, slot_of, rep_in, rep_of, has_of, constant_expr, operation, call_of}
+use Rattle.plan_rules.specs.Translation.{Name, Place, deliver, Applied, Branches, Miscounted, haves, objects, is_counted, TrConstant, TrVariable, TrVariableUnused, TrCounted, TrCall, Tr, TrUnused}
 use Rattle.code_gen.specs.Settings.{Setting, scope_in, TrIn, TrUnusedIn, TrArgumentsIn}
-use Rattle.code_gen.specs.Emission.{constant_expr, AreReady}
+use Rattle.code_gen.specs.Emission.{AreReady, Delivered}
 
 module _ (w : Setting) where
-  pub tr_constant : (vars : List CVar) (k : Const) (h : Rep) (live : List Name) (place : Place) (code rest : Code) → code ≡ deliver place (constant_expr h k) rest → TrIn w vars (Constant k) h live place code rest
+  pub tr_constant : (vars : List CVar) (k : Const) (h : Rep) (e : CExpr) (live : List Name) (place : Place) (code rest : Code) → constant_expr k h ≡ Some e → code ≡ deliver place e rest
+      → TrIn w vars (Constant k) h live place code rest
   unfolding Tr
-  tr_constant vars (Int n) h live place code rest e = e
+  tr_constant vars k h e live place code rest found is = subst (λ o. TrConstant w.module_name w.functions (scope_in w) vars o place code rest) (sym found) is
 
   pub unused_constant_is : (vars : List CVar) (k : Const) (live : List Name) (code rest : Code) → code ≡ rest → TrUnusedIn w vars (Constant k) live code rest
   unfolding TrUnused
@@ -48,6 +49,20 @@ module _ (w : Setting) where
 
   pub variable_has : (x : VarId) (y : Name) (wanted : Rep) → slot_of x (scope_in w) ≡ Some (PlainAt Obj y) → Obj ≡ has_of (scope_in w) (Variable x) wanted
   variable_has x y wanted found = sym (ap rep_in found)
+
+  -- Branches --------------------------------------------------------------------------------
+
+  pub tr_if : (vars : List CVar) (a b c : Tree) (live : List Name) (place : Place) (code rest : Code)
+      → Branches vars (has_of (scope_in w) a Truth_rep) (λ place code rest. TrIn w vars a (has_of (scope_in w) a Truth_rep) live place code rest) live
+      (λ code. Delivered w b live vars place code done) (λ code. Delivered w c live vars place code done) code rest → TrIn w vars (If a b c) Obj live place code rest
+  unfolding Tr
+  tr_if vars a b c live place code rest chosen = (refl, chosen)
+
+  pub unused_if_is : (vars : List CVar) (a b c : Tree) (live : List Name) (code rest : Code)
+      → Branches vars (has_of (scope_in w) a Truth_rep) (λ place code rest. TrIn w vars a (has_of (scope_in w) a Truth_rep) live place code rest) live
+      (λ code. TrUnusedIn w vars b live code done) (λ code. TrUnusedIn w vars c live code done) code rest → TrUnusedIn w vars (If a b c) live code rest
+  unfolding TrUnused
+  unused_if_is vars a b c live code rest chosen = chosen
 
   -- Calls -----------------------------------------------------------------------------------
 

@@ -1,0 +1,102 @@
+// Calls, whose arguments are evaluated from left to right and then made to fit.
+ghost use Rattle.std.specs.Prelude.{◌≡◌, map, IfOk};
+ghost use Rattle.prim_table.specs.Table.{params_of};
+ghost use Rattle.core_tree.specs.Tree.{tree, trees, function_of};
+ghost use Rattle.core_tree.specs.WellFormed.{AsMany, Defined};
+ghost use Rattle.code_gen.specs.Settings.{setting, AreNodes};
+ghost use Rattle.code_gen.specs.Emission.{AreParameters, AreArguments, IsReady, IsPrimitiveCall, IsOwnCall};
+
+use crate::coercions::fitted;
+use crate::context::{Context, name_of, params_of};
+use crate::emitter::{Emitter, Held};
+use crate::nodes::value;
+use crate::parts::{local_args, object_types, param_types, raise_count, rep};
+use c_tree::{CArg, CCall, Callee, Op, Piece, function_name_text};
+use core_tree::{GlobalRef, Node};
+use prim_table::{Primitive, Ty};
+use scheme_data::{List, OutOfMemory};
+
+/// The call of a primitive.
+#[cycle(values)]
+pub fn primitive_call(
+    ctx: &Context,
+    e: &mut Emitter,
+    p: Primitive,
+    nodes: &[Node],
+) -> Result<CCall, OutOfMemory>
+    requires as_many { AsMany (params_of p) (trees (map tree nodes.now)) }
+    requires expressions { AreNodes (setting ctx.now) (trees (map tree nodes.now)) }
+    ensures { IfOk result (λ call. IsPrimitiveCall (setting ctx.now) e.old e.new p (trees (map tree nodes.now)) call) }
+{
+    let args = ready(ctx, e, param_types(p), nodes)?;
+    Ok(CCall {
+        callee: Callee::Op(Op::Primitive(p)),
+        args,
+    })
+}
+
+/// The call of a function of the module; none where the number of arguments is wrong, and an error is raised in its place.
+#[cycle(values)]
+pub fn own_call(
+    ctx: &Context,
+    e: &mut Emitter,
+    g: GlobalRef,
+    nodes: &[Node],
+) -> Result<Option<CCall>, OutOfMemory>
+    requires defined { Defined (function_of (setting ctx.now).functions g) }
+    requires expressions { AreNodes (setting ctx.now) (trees (map tree nodes.now)) }
+    ensures { IfOk result (λ call. IsOwnCall (setting ctx.now) e.old e.new g (trees (map tree nodes.now)) call) }
+{
+    let f = ctx.function(g);
+    let want = params_of(f).len();
+    let types = object_types(e.alloc, nodes)?;
+    if nodes.len() != want {
+        arguments(ctx, e, types.as_slice(), nodes)?;
+        let raise = raise_count(e.alloc, want)?;
+        e.put(Piece::Call(raise))?;
+        return Ok(None);
+    }
+    let args = ready(ctx, e, types.as_slice(), nodes)?;
+    let name = function_name_text(e.alloc, ctx.module_name.as_bytes(), name_of(f).as_bytes())?;
+    Ok(Some(CCall {
+        callee: Callee::Fun(name),
+        args,
+    }))
+}
+
+// The arguments of a call.
+#[cycle(values)]
+fn ready(
+    ctx: &Context,
+    e: &mut Emitter,
+    types: &[Ty],
+    nodes: &[Node],
+) -> Result<List<CArg>, OutOfMemory>
+    requires parameters { AreParameters types.now }
+    requires as_many { AsMany types.now (trees (map tree nodes.now)) }
+    requires expressions { AreNodes (setting ctx.now) (trees (map tree nodes.now)) }
+    ensures { IfOk result (λ args. IsReady (setting ctx.now) e.old e.new types.now (trees (map tree nodes.now)) args) }
+{
+    let held = arguments(ctx, e, types, nodes)?;
+    let made = fitted(e, types, held.as_slice())?;
+    local_args(e.alloc, made.as_slice())
+}
+
+#[cycle(values)]
+fn arguments(
+    ctx: &Context,
+    e: &mut Emitter,
+    types: &[Ty],
+    nodes: &[Node],
+) -> Result<List<Held>, OutOfMemory>
+    requires as_many { AsMany types.now (trees (map tree nodes.now)) }
+    requires expressions { AreNodes (setting ctx.now) (trees (map tree nodes.now)) }
+    ensures { IfOk result (λ held. AreArguments (setting ctx.now) e.old e.new types.now (trees (map tree nodes.now)) held) }
+{
+    let mut held = List::new(e.alloc);
+    for i in 0..nodes.len() {
+        let one = value(ctx, e, &nodes[i], rep(types[i]))?;
+        held.push(one)?;
+    }
+    Ok(held)
+}
