@@ -1,8 +1,9 @@
 -- The joined program has right names where the unit has, and an object alone is linked to it.
 use Rattle.std.proofs.Common.{◌≡◌, ℕ, List, [], ◌∷◌, ◌++◌, length, get_or, map, IsTrue, refl, ap, sym, ◌∙◌, subst, arith}
 use Rattle.std.proofs.lemmas.List.{map-append}
-use Rattle.c_tree.specs.declared.tree.CItem.{CItem}
-use Rattle.c_tree.specs.Code.{Item, item_of, items_of}
+use Rattle.c_tree.specs.declared.function.CItem.{CItem}
+use Rattle.c_tree.specs.Code.{Item}
+use Rattle.c_tree.specs.Functions.{item_of, items_of}
 use Rattle.c_tree.specs.Names.{is_function_name, is_local_name, function_name}
 use Rattle.c_tree.specs.Spelling.{CText, NamedItem, NamedItems}
 use Rattle.object_text.specs.declared.object.Object.{Object}

@@ -1,6 +1,8 @@
 // The program of one object: its unit's items, and then `main`.
 ghost use Rattle.std.specs.Prelude.{◌≡◌, [], ◌∷◌, IfOk};
-ghost use Rattle.c_tree.specs.Code.{items_of, item_of, onto, done, return, assign};
+ghost use Rattle.c_tree.specs.Functions.{items_of, item_of};
+ghost use Rattle.c_tree.specs.Layout.{code_of};
+ghost use Rattle.c_tree.specs.Pieces.{pieces};
 ghost use Rattle.c_tree.specs.Spelling.{NamedItems};
 ghost use Rattle.c_tree.specs.declared.op.Op.TheVariants.{Args};
 ghost use Rattle.c_tree.specs.declared.tree.CTy.TheVariants.{Obj as ObjTy};
@@ -10,8 +12,8 @@ ghost use Rattle.plan_rules.specs.Joined.{joined, main_item, first_local, second
 ghost use Rattle.linker.specs.MainParts.{main_code};
 
 use c_tree::{
-    CArg, CAtom, CBody, CCall, CExpr, CFun, CItem, CProgram, CStmt, CTy, CVar, Callee, Op,
-    function_name_text,
+    CArg, CAtom, CCall, CExpr, CFun, CItem, CProgram, CTy, CVar, Callee, Layout, Op, Piece,
+    function_name_text, lay_out,
 };
 use object_text::Object;
 use scheme_data::{List, OutOfMemory, Text};
@@ -37,13 +39,24 @@ pub fn joined_program(alloc: Global, o: Object) -> Result<CProgram, OutOfMemory>
 fn item_main(alloc: Global, name: Text) -> Result<CItem, OutOfMemory>
     ensures { IfOk result (λ i. item_of i ≡ main_item name) }
 {
+    let Layout { body, stmts } = main_layout(alloc, name)?;
     Ok(CItem::Defined(CFun {
         result: CTy::Int,
         name: Text::from_bytes(alloc, b"main")?,
         params: List::new(alloc),
         locals: main_locals(alloc)?,
-        body: CBody::Straight(main_statements(alloc, name)?),
+        body,
+        stmts,
     }))
+}
+
+fn main_layout(alloc: Global, name: Text) -> Result<Layout, OutOfMemory>
+    ensures { IfOk result (λ l. code_of l.stmts l.body ≡ main_code name) }
+{
+    match lay_out(alloc, main_pieces(alloc, name)?)? {
+        Some(layout) => Ok(layout),
+        None => unreachable!(),
+    }
 }
 
 fn main_locals(alloc: Global) -> Result<List<CVar>, OutOfMemory>
@@ -65,8 +78,8 @@ fn object_local(alloc: Global, name: &[u8]) -> Result<CVar, OutOfMemory>
 }
 
 /// The arguments are fetched, the function is called with them, and its value's status is returned.
-fn main_statements(alloc: Global, name: Text) -> Result<List<CStmt>, OutOfMemory>
-    ensures { IfOk result (λ ss. onto ss done ≡ main_code name) }
+fn main_pieces(alloc: Global, name: Text) -> Result<List<Piece>, OutOfMemory>
+    ensures { IfOk result (λ ps. ps ≡ pieces (main_code name) []) }
 {
     let fetch = CCall {
         callee: Callee::Op(Op::Args),
@@ -74,17 +87,17 @@ fn main_statements(alloc: Global, name: Text) -> Result<List<CStmt>, OutOfMemory
     };
     let run = call_with(alloc, Callee::Fun(name), FIRST)?;
     let status = call_with(alloc, Callee::Op(Op::Status), SECOND)?;
-    let mut statements = List::new(alloc);
-    statements.push(assignment(alloc, FIRST, fetch)?)?;
-    statements.push(assignment(alloc, SECOND, run)?)?;
-    statements.push(CStmt::Return(CExpr::Call(status)))?;
-    Ok(statements)
+    let mut pieces = List::new(alloc);
+    pieces.push(assignment(alloc, FIRST, fetch)?)?;
+    pieces.push(assignment(alloc, SECOND, run)?)?;
+    pieces.push(Piece::Return(CExpr::Call(status)))?;
+    Ok(pieces)
 }
 
-fn assignment(alloc: Global, name: &[u8], call: CCall) -> Result<CStmt, OutOfMemory>
-    ensures { IfOk result (λ s. s ≡ CStmt.Assign name.now (CExpr.Call call)) }
+fn assignment(alloc: Global, name: &[u8], call: CCall) -> Result<Piece, OutOfMemory>
+    ensures { IfOk result (λ p. p ≡ Piece.Assign name.now (CExpr.Call call)) }
 {
-    Ok(CStmt::Assign(Text::from_bytes(alloc, name)?, CExpr::Call(call)))
+    Ok(Piece::Assign(Text::from_bytes(alloc, name)?, CExpr::Call(call)))
 }
 
 /// A call with one local.

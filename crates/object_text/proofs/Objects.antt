@@ -1,9 +1,10 @@
 -- What a text of an object tells, whose lines were cut.
 use Rattle.std.proofs.Common.{◌≡◌, ℕ, List, ◌++◌, Result, Ok, Err, IfOk, IfErr, refl, ap, sym, ◌∙◌, subst, append_assoc}
 use Rattle.scheme_data.specs.Symbols.{IsName}
-use Rattle.c_tree.specs.Code.{Item, items_of}
+use Rattle.c_tree.specs.Code.{Item}
+use Rattle.c_tree.specs.Functions.{items_of}
 use Rattle.c_tree.specs.Spelling.{CText}
-use Rattle.c_tree.specs.declared.tree.CUnit.{CUnit}
+use Rattle.c_tree.specs.declared.function.CUnit.{CUnit}
 use Rattle.object_text.specs.declared.object.Object.{Object}
 use Rattle.object_text.specs.declared.object.ObjectErr.{ObjectErr}
 use Rattle.object_text.specs.declared.object.ObjectErr.TheVariants.{NotObject, Memory}

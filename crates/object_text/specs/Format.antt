@@ -1,7 +1,8 @@
 -- The format of an object text: header lines, and then the C text of the unit to the end.
 use Rattle.std.specs.Prelude.{◌≡◌, ℕ, List, ◌++◌, codes}
 use Rattle.scheme_data.specs.Symbols.{IsName}
-use Rattle.c_tree.specs.Code.{Item, items_of}
+use Rattle.c_tree.specs.Code.{Item}
+use Rattle.c_tree.specs.Functions.{items_of}
 use Rattle.c_tree.specs.Spelling.{CText, NamedItems}
 use Rattle.object_text.specs.declared.object.Object.{Object}
 

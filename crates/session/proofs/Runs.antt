@@ -5,7 +5,7 @@ use Rattle.base_io.specs.Observation.{Observation}
 use Rattle.base_io.specs.declared.end.End.{End}
 use Rattle.base_io.specs.declared.end.RunErr.{RunErr}
 use Rattle.c_tree.specs.Code.{Item}
-use Rattle.c_tree.specs.declared.tree.CProgram.{CProgram}
+use Rattle.c_tree.specs.declared.function.CProgram.{CProgram}
 use Rattle.c_meaning.specs.Program.{cm}
 use Rattle.c_meaning.specs.Checked.{IsChecked}
 use Rattle.c_machine.specs.Runs.{Ran}

@@ -4,9 +4,10 @@ use Rattle.base_io.specs.Contents.{Bytes}
 use Rattle.base_io.specs.Observation.{Observation}
 use Rattle.base_io.specs.declared.end.End.{End}
 use Rattle.base_io.specs.declared.end.RunErr.{RunErr}
-use Rattle.c_tree.specs.Code.{Item, items_of}
+use Rattle.c_tree.specs.Code.{Item}
+use Rattle.c_tree.specs.Functions.{items_of}
 use Rattle.c_tree.specs.Spelling.{CText}
-use Rattle.c_tree.specs.declared.tree.CProgram.{CProgram}
+use Rattle.c_tree.specs.declared.function.CProgram.{CProgram}
 use Rattle.c_machine.specs.Runs.{WrotePart}
 use Rattle.unit_compile.specs.Compilation.{Compiled}
 use Rattle.linker.specs.Links.{Linked}

@@ -2,7 +2,7 @@
 ghost use Rattle.std.specs.Prelude.{◌≡◌, ◌≤◌, ◌∷◌, IfOk, IsErrOf, OnErr};
 ghost use Rattle.base_io.specs.Causes.{Rose};
 ghost use Rattle.base_io.specs.Contents.{Bytes};
-ghost use Rattle.c_tree.specs.Code.{items_of};
+ghost use Rattle.c_tree.specs.Functions.{items_of};
 ghost use Rattle.c_meaning.specs.Program.{cm};
 ghost use Rattle.session.specs.Outside.{PutAll};
 ghost use Rattle.session.specs.Works.{error_line, last_line, no_input};

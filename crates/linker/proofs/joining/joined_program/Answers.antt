@@ -1,5 +1,6 @@
 use Rattle.std.proofs.Common.{◌≡◌, ℕ, ◌<◌, List, length, IsTrue, sym, subst}
-use Rattle.c_tree.specs.Code.{Item, items_of}
+use Rattle.c_tree.specs.Code.{Item}
+use Rattle.c_tree.specs.Functions.{items_of}
 use Rattle.c_tree.specs.Names.{is_function_name, function_name}
 use Rattle.c_tree.specs.Spelling.{NamedItems}
 use Rattle.linker.proofs.Programs.{joined_is, joined_named, named_function}

@@ -1,4 +1,4 @@
-use Rattle.c_tree.specs.Code.{items_of}
+use Rattle.c_tree.specs.Functions.{items_of}
 use Rattle.linker.proofs.Programs.{alone, none_alone, linked}
 use Rattle.linker.proofs.linking.link.Goals as goal
 
