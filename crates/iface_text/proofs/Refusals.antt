@@ -4,7 +4,7 @@ use Rattle.std.proofs.lemmas.List.{length_push, same_from_push}
 use Rattle.std.specs.Prelude.{codes}
 use Rattle.scheme_data.specs.Symbols.{IsName}
 use Rattle.prim_table.specs.declared.primitives.Ty.{Ty}
-use Rattle.prim_table.specs.declared.primitives.Ty.TheVariants.{Obj, Long}
+use Rattle.prim_table.specs.declared.primitives.Ty.TheVariants.{Obj, Long, Bool as Truth}
 use Rattle.prim_table.specs.Table.{type_name}
 use Rattle.iface_text.specs.declared.interface.Iface.{Iface}
 use Rattle.iface_text.specs.declared.interface.IfaceErr.{IfaceErr}
@@ -30,6 +30,7 @@ use Rattle.iface_text.proofs.Steps.{Sound, so_far, tree, has_spelling, viable, t
 type_lacks : (t : Ty) → Lacks 10 (type_name t)
 type_lacks Obj = refl
 type_lacks Long = refl
+type_lacks Truth = refl
 
 more_lack : (ts : List Ty) → Lacks 10 (more_types ts)
 more_lack [] = refl

@@ -64,5 +64,6 @@ fn name_of_type(ty: Ty) -> &'static [u8]
     match ty {
         Ty::Obj => b"obj",
         Ty::Long => b"long",
+        Ty::Bool => b"bool",
     }
 }
