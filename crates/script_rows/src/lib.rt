@@ -2,9 +2,13 @@
 #![tactic(auto)]
 
 #[cfg(test)]
+mod branches;
+#[cfg(test)]
 mod faults;
 #[cfg(test)]
 mod hello;
+#[cfg(test)]
+mod row;
 #[cfg(test)]
 mod rows;
 #[cfg(test)]

@@ -1,5 +1,6 @@
 // What scripts answer, print and write.
 use crate::hello::{HELLO_OBJECT, HELLO_PROGRAM};
+use crate::row::{Row, all_pass, is_refused, once, passes, with_turns};
 use crate::world::{
     FIVE_TURNS, FOUR_TURNS, MANY_TURNS, NO_TURN, SCRIPT, THREE_TURNS, World, source_of,
 };
@@ -7,67 +8,7 @@ use scheme_data::{OutOfMemory, Text};
 use session::{message, status};
 use std::alloc::Global;
 
-/// A file and what it holds; none where it isn't there.
-type Holds<'a> = (&'a [u8], Option<&'a [u8]>);
-
-/// A script over one source, and what is seen of it.
-#[derive(Drop)]
-struct Row<'a> {
-    source: &'a [u8],
-    script: &'a [u8],
-    status: u8,
-    output: &'a [u8],
-    message: &'a [u8],
-    files: &'a [Holds<'a>],
-}
-
 const HELLO: &[u8] = b"(module hello (main go)) (define (go args) (display (+ 40 2)) (newline))";
-
-fn all_hold(world: &World, files: &[Holds]) -> Result<bool, OutOfMemory> {
-    for (name, content) in files {
-        if !world.holds(name, *content)? {
-            return Ok(false);
-        }
-    }
-    Ok(true)
-}
-
-fn passes(alloc: Global, row: &Row) -> Result<bool, OutOfMemory> {
-    let mut world = World::new(alloc, row.source, row.script, 0)?;
-    let answer = world.does(&[b"do".as_slice(), b"s".as_slice()])?;
-    let told = message(alloc, &answer)?;
-    Ok(
-        status(&answer) == row.status
-            && world.out.bytes() == row.output
-            && told.as_bytes() == row.message
-            && all_hold(&world, row.files)?,
-    )
-}
-
-/// A source whose program is run with one turn.
-fn once<'a>(source: &'a [u8], status: u8, output: &'a [u8]) -> Row<'a> {
-    with_turns(source, SCRIPT, status, output)
-}
-
-fn with_turns<'a>(source: &'a [u8], script: &'a [u8], status: u8, output: &'a [u8]) -> Row<'a> {
-    Row {
-        source,
-        script,
-        status,
-        output,
-        message: b"",
-        files: &[],
-    }
-}
-
-fn all_pass(alloc: Global, rows: &[Row]) -> Result<bool, OutOfMemory> {
-    for row in rows {
-        if !passes(alloc, row)? {
-            return Ok(false);
-        }
-    }
-    Ok(true)
-}
 
 #[test]
 fn hello_prints_42_and_leaves_an_object_and_a_text(rt: HostRuntime) -> Result<(), OutOfMemory> {
@@ -227,19 +168,6 @@ fn words_that_are_no_command_and_missing_files_are_told(
     Ok(())
 }
 
-/// Whether a source is refused with these words, and has no object.
-fn is_refused(alloc: Global, source: &[u8], words: &[u8]) -> Result<bool, OutOfMemory> {
-    let mut world = World::new(alloc, source, SCRIPT, 0)?;
-    let answer = world.does(&[b"do".as_slice(), b"s".as_slice()])?;
-    let told = message(alloc, &answer)?;
-    Ok(
-        status(&answer) == 247
-            && told.as_bytes() == words
-            && world.out.bytes().is_empty()
-            && world.holds(b"h.o", None)?,
-    )
-}
-
 #[test]
 fn sources_at_fault_are_refused_with_cause_and_place(rt: HostRuntime) -> Result<(), OutOfMemory> {
     let rows: [(&[u8], &[u8]); 6] = [
@@ -249,7 +177,7 @@ fn sources_at_fault_are_refused_with_cause_and_place(rt: HostRuntime) -> Result<
         (b"(module m) #| |", b"line 1: refusal 1 1:12"),
         (b"(module m (. f))", b"line 1: refusal 1 1:12"),
         (
-            b"(module m (main go)) (define (go args) #t)",
+            b"(module m (main go)) (define (go args) #\\t)",
             b"line 1: refusal 0",
         ),
     ];

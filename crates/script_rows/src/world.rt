@@ -5,30 +5,32 @@ use session::{Answer, bglc};
 use std::alloc::Global;
 
 /// The three lines of a whole script.
-pub const SCRIPT: &[u8] = b"compile h.scm h.o\nlink h.c h.o\nrun h.c 1\n";
+pub(crate) const SCRIPT: &[u8] = b"compile h.scm h.o\nlink h.c h.o\nrun h.c 1\n";
 
 /// The same with other numbers of turns.
-pub const NO_TURN: &[u8] = b"compile h.scm h.o\nlink h.c h.o\nrun h.c 0\n";
+pub(crate) const NO_TURN: &[u8] = b"compile h.scm h.o\nlink h.c h.o\nrun h.c 0\n";
 
-pub const THREE_TURNS: &[u8] = b"compile h.scm h.o\nlink h.c h.o\nrun h.c 3\n";
+pub(crate) const THREE_TURNS: &[u8] = b"compile h.scm h.o\nlink h.c h.o\nrun h.c 3\n";
 
-pub const FOUR_TURNS: &[u8] = b"compile h.scm h.o\nlink h.c h.o\nrun h.c 4\n";
+pub(crate) const FOUR_TURNS: &[u8] = b"compile h.scm h.o\nlink h.c h.o\nrun h.c 4\n";
 
-pub const FIVE_TURNS: &[u8] = b"compile h.scm h.o\nlink h.c h.o\nrun h.c 5\n";
+pub(crate) const FIVE_TURNS: &[u8] = b"compile h.scm h.o\nlink h.c h.o\nrun h.c 5\n";
 
-pub const MANY_TURNS: &[u8] = b"compile h.scm h.o\nlink h.c h.o\nrun h.c 100001\n";
+pub(crate) const TEN_TURNS: &[u8] = b"compile h.scm h.o\nlink h.c h.o\nrun h.c 10\n";
+
+pub(crate) const MANY_TURNS: &[u8] = b"compile h.scm h.o\nlink h.c h.o\nrun h.c 100001\n";
 
 /// The objects that a script is handed.
 #[derive(Drop)]
-pub struct World {
-    pub alloc: Global,
-    pub files: MemFiles,
-    pub input: MemSource,
-    pub out: MemSink,
+pub(crate) struct World {
+    pub(crate) alloc: Global,
+    pub(crate) files: MemFiles,
+    pub(crate) input: MemSource,
+    pub(crate) out: MemSink,
 }
 
 /// A list of these texts.
-pub fn texts(alloc: Global, items: &[&[u8]]) -> Result<TextList, OutOfMemory> {
+pub(crate) fn texts(alloc: Global, items: &[&[u8]]) -> Result<TextList, OutOfMemory> {
     let mut list = TextList::new(alloc);
     for item in items {
         list.push(Text::from_bytes(alloc, item)?)?;
@@ -38,7 +40,7 @@ pub fn texts(alloc: Global, items: &[&[u8]]) -> Result<TextList, OutOfMemory> {
 
 impl World {
     /// A world with the files `h.scm` and `s`, whose call of this number fails; 0 for none.
-    pub fn new(
+    pub(crate) fn new(
         alloc: Global,
         source: &[u8],
         script: &[u8],
@@ -64,7 +66,7 @@ impl World {
     }
 
     /// Does what these words ask for.
-    pub fn does(&mut self, words: &[&[u8]]) -> Result<Answer, OutOfMemory> {
+    pub(crate) fn does(&mut self, words: &[&[u8]]) -> Result<Answer, OutOfMemory> {
         let words = texts(self.alloc, words)?;
         Ok(bglc(
             self.alloc,
@@ -76,7 +78,7 @@ impl World {
     }
 
     /// Whether a file holds this content, or isn't there.
-    pub fn holds(&self, name: &[u8], content: Option<&[u8]>) -> Result<bool, OutOfMemory> {
+    pub(crate) fn holds(&self, name: &[u8], content: Option<&[u8]>) -> Result<bool, OutOfMemory> {
         let name = Text::from_bytes(self.alloc, name)?;
         Ok(match (self.files.content(&name), content) {
             (Some(have), Some(want)) => have.as_bytes() == want,
@@ -87,7 +89,7 @@ impl World {
 }
 
 /// The source whose main function has this body.
-pub fn source_of(alloc: Global, body: &[u8]) -> Result<Text, OutOfMemory> {
+pub(crate) fn source_of(alloc: Global, body: &[u8]) -> Result<Text, OutOfMemory> {
     let mut text = Text::from_bytes(alloc, b"(module hello (main go)) (define (go args) ")?;
     text.extend(body)?;
     text.push(b')')?;
