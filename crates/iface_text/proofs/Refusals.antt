@@ -43,7 +43,7 @@ types_lack (t ∷ ts) = lacks_append 10 (type_name t) (more_types ts) (type_lack
 kind_lacks : (k : RowKind) → Lacks 10 (kind_text k)
 kind_lacks (Fun params gives) = lacks_append 10 (types_text params) (codes ") " ++ type_name gives) (types_lack params) (type_lacks gives)
 
-row_lacks : (r : Row) → IsName r.name → Lacks 10 (row_line r)
+pub row_lacks : (r : Row) → IsName r.name → Lacks 10 (row_line r)
 row_lacks r h = lacks_append 10 r.name (kind_text r.kind) (lacks_line_end r.name h) (kind_lacks r.kind)
 
 rows_lack : (names : List (List ℕ)) (rs : List Row) → AreRows names rs → AllLack (row_lines rs ++ end_line ∷ [])

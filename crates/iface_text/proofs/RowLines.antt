@@ -12,7 +12,7 @@ use Rattle.iface_text.specs.declared.interface.Row.{Row}
 use Rattle.iface_text.specs.declared.interface.RowKind.{RowKind}
 use Rattle.iface_text.specs.declared.interface.RowKind.TheVariants.{Fun}
 use Rattle.iface_text.specs.Format.{more_types, types_text, kind_text, row_line, module_line, AreUntyped, IsUntyped}
-use Rattle.iface_text.specs.Lines.{Lacks, is_name, same_bytes, checked_name, module_line_name, untyped_row, checked_row, first_word, candidate, row_of, NoRow}
+use Rattle.iface_text.specs.Lines.{Lacks, is_name, same_bytes, checked_name, module_line_name, untyped_row, checked_row, first_word, candidate, row_of, NoRow, RowLine}
 use Rattle.iface_text.proofs.Bytes.{passes_other, first_word_is}
 
 -- Tests -------------------------------------------------------------------------------------
@@ -81,7 +81,7 @@ objects_are : (ts : List Ty) → AreUntyped ts → ts ≡ replicate (length ts) 
 objects_are [] h = refl
 objects_are (t ∷ ts) h = let e : t ≡ Obj = h.0 in let f : ts ≡ replicate (length ts) Obj = objects_are ts h.1 in cc
 
-are_objects : (n : ℕ) → AreUntyped (replicate n Obj)
+pub are_objects : (n : ℕ) → AreUntyped (replicate n Obj)
 are_objects zero = tt
 are_objects (suc n) = (refl, are_objects n)
 
@@ -116,12 +116,6 @@ checked_some line r h e = rw (is_name_true r.name h, is_same line (row_line r) e
 pub row_of_spelled : (name : List ℕ) (n : ℕ) → IsName name → row_of (row_line (untyped_row name n)) ≡ Some (untyped_row name n)
 unfolding row_of
 row_of_spelled name n h = ap (checked_row (row_line (untyped_row name n))) (candidate_is name n h) ∙ checked_some (row_line (untyped_row name n)) (untyped_row name n) h refl
-
--- the line is that of this row
-pub record RowLine (line : List ℕ) (r : Row) : Type 0 where
-  pub is_name : IsName r.name
-  pub is_untyped : IsUntyped r.kind
-  pub are : line ≡ row_line r
 
 pub row_of_row : (line : List ℕ) (r : Row) → RowLine line r → row_of line ≡ Some r
 row_of_row line r h = ap row_of h.are ∙ subst (λ (q : Row). row_of (row_line q) ≡ Some q) (untyped_is r h.is_untyped) (row_of_spelled r.name (params_in r.kind) h.is_name)

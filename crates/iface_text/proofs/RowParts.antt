@@ -1,5 +1,5 @@
 -- The parts of a row's line.
-use Rattle.std.proofs.Common.{◌≡◌, ◌≢◌, ℕ, List, ◌∷◌, ◌++◌, replicate, ap, sym, ◌∙◌, subst}
+use Rattle.std.proofs.Common.{◌≡◌, ◌≢◌, ℕ, List, ◌∷◌, ◌++◌, replicate, refl, ap, sym, ◌∙◌, subst}
 use Rattle.std.specs.Prelude.{codes, Option, Some}
 use Rattle.std.proofs.lemmas.List.{append_cancel_left, append_cancel_right}
 use Rattle.scheme_data.specs.Symbols.{IsName}
@@ -8,9 +8,9 @@ use Rattle.prim_table.specs.declared.primitives.Ty.TheVariants.{Obj}
 use Rattle.iface_text.specs.declared.interface.Row.{Row}
 use Rattle.iface_text.specs.declared.interface.RowKind.TheVariants.{Fun}
 use Rattle.iface_text.specs.Format.{row_line}
-use Rattle.iface_text.specs.Lines.{Lacks, untyped_row, NoRow, row_of}
+use Rattle.iface_text.specs.Lines.{Lacks, untyped_row, NoRow, RowLine, row_of}
 use Rattle.iface_text.proofs.Bytes.{SameCut, cut_once}
-use Rattle.iface_text.proofs.RowLines.{lacks_blank, row_of_spelled}
+use Rattle.iface_text.proofs.RowLines.{lacks_blank, are_objects, row_of_spelled}
 use Rattle.iface_text.proofs.Counts.{objects_text}
 
 -- what follows the name and the blank
@@ -53,3 +53,7 @@ row_found line before rest types params n cut f g k =
 pub made_row : (line part name : List ℕ) (n : ℕ) (types : List Ty) → IsName part → line ≡ row_line (untyped_row part n) → name ≡ part → types ≡ replicate n Obj
     → ◌≡◌ {A = Option Row} (Some (record { name = name; kind = Fun types Obj })) (row_of line)
 made_row line part name n types h e f g = rw (f, g) (sym (ap row_of e ∙ row_of_spelled part n h))
+
+pub made_row_line : (line part name : List ℕ) (n : ℕ) (types : List Ty) → IsName part → line ≡ row_line (untyped_row part n) → name ≡ part → types ≡ replicate n Obj
+    → RowLine line (record { name = name; kind = Fun types Obj })
+made_row_line line part name n types h e f g = rw (f, g) (record { is_name = h; is_untyped = (are_objects n, refl); are = e })

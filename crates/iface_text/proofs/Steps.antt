@@ -10,9 +10,9 @@ use Rattle.iface_text.specs.declared.reader.Stage.{Stage}
 use Rattle.iface_text.specs.declared.reader.Stage.TheVariants.{Version, Module, Rows, Done}
 use Rattle.iface_text.specs.Format.{IfaceTree, version_line, module_line, row_line, end_line, lines_of, AreRows, HasSpelling}
 use Rattle.iface_text.specs.Refusal.{Viable}
-use Rattle.iface_text.specs.Lines.{same_bytes, module_line_name, row_of}
+use Rattle.iface_text.specs.Lines.{same_bytes, module_line_name, row_of, RowLine}
 use Rattle.iface_text.specs.Reading.{step, step_by, step_version, step_module, step_rows, named, one_more, with_row}
-use Rattle.iface_text.proofs.RowLines.{same_is, is_same, some_is, module_line_sound, module_line_name_is, RowLine, row_of_sound, row_of_row}
+use Rattle.iface_text.proofs.RowLines.{same_is, is_same, some_is, module_line_sound, module_line_name_is, row_of_sound, row_of_row}
 use Rattle.iface_text.proofs.RowLists.{names_in, row_lines, Fresh, next_line, nothing_after_end, push_row}
 
 -- What a reader knows -----------------------------------------------------------------------

@@ -1,12 +1,12 @@
 -- What a line of an interface's text tells, by the one row or name that it can be the spelling of.
-use Rattle.std.specs.Prelude.{◌≢◌, ℕ, ◌+◌, ◌-◌, ◌/◌, List, Bool, not, ◌&&◌, if◌then◌else◌, nat_eq, nat_le, IsTrue, length, take, drop, replicate, Option, Some, None}
+use Rattle.std.specs.Prelude.{◌≡◌, ◌≢◌, ℕ, ◌+◌, ◌-◌, ◌/◌, List, Bool, not, ◌&&◌, if◌then◌else◌, nat_eq, nat_le, IsTrue, length, take, drop, replicate, Option, Some, None}
 use Rattle.std.specs.List.{list_all, prefix_len}
 use Rattle.std.specs.Cmp.Lexicographic.{pointwise}
 use Rattle.scheme_data.specs.Symbols.{is_symbol_byte, IsName}
 use Rattle.prim_table.specs.declared.primitives.Ty.TheVariants.{Obj}
 use Rattle.iface_text.specs.declared.interface.Row.{Row}
 use Rattle.iface_text.specs.declared.interface.RowKind.TheVariants.{Fun}
-use Rattle.iface_text.specs.Format.{row_line, module_line}
+use Rattle.iface_text.specs.Format.{row_line, module_line, IsUntyped}
 
 abbrev pub other_than : ℕ → ℕ → Bool
 other_than byte b = not (nat_eq b byte)
@@ -31,6 +31,12 @@ module_line_name line = checked_name line (drop 7 line)
 -- the row of a function with so many parameters
 abbrev pub untyped_row : List ℕ → ℕ → Row
 untyped_row name params = record { name = name; kind = Fun (replicate params Obj) Obj }
+
+-- the line is that of this row
+pub record RowLine (line : List ℕ) (r : Row) : Type 0 where
+  pub is_name : IsName r.name
+  pub is_untyped : IsUntyped r.kind
+  pub are : line ≡ row_line r
 
 -- no such function's row has this line
 abbrev pub NoRow : List ℕ → Type 0

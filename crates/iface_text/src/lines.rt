@@ -4,14 +4,14 @@ ghost use Rattle.std.specs.List.{prefix_len, list_all};
 ghost use Rattle.scheme_data.specs.Symbols.{is_symbol_byte, IsName};
 ghost use Rattle.prim_table.specs.declared.primitives.Ty.TheVariants.{Obj};
 ghost use Rattle.iface_text.specs.Format.{types_text, row_line};
-ghost use Rattle.iface_text.specs.Lines.{other_than, Lacks, module_line_name, row_of, untyped_row, NoRow};
+ghost use Rattle.iface_text.specs.Lines.{other_than, Lacks, module_line_name, row_of, untyped_row, NoRow, RowLine};
 
 use crate::interface::{Row, RowKind};
 use prim_table::Ty;
 use scheme_data::{List, OutOfMemory, Text};
 use std::alloc::Global;
 
-/// What stands before a byte, and what follows it.
+/// What stands before the first place of a byte, and what follows it.
 #[derive(Drop)]
 pub struct Cut<'a> {
     pub before: &'a [u8],
@@ -84,7 +84,8 @@ fn are_symbols(bytes: &[u8]) -> bool
     bytes.iter().all(|b| is_symbol(*b))
 }
 
-fn is_name(bytes: &[u8]) -> bool
+/// Whether the bytes are a name.
+pub fn is_name(bytes: &[u8]) -> bool
     ensures { IsTrue result ↔ IsName bytes.now }
 {
     !bytes.is_empty() && bytes.len() <= 255 && are_symbols(bytes)
@@ -145,9 +146,11 @@ fn objects(alloc: Global, count: usize) -> Result<List<Ty>, OutOfMemory>
     Ok(types)
 }
 
-/// The row of a line; none where the line is no row.
-pub fn row_of_line(alloc: Global, line: &[u8]) -> Result<Option<Row>, OutOfMemory>
-    ensures { IfOk result (λ row. row ≡ row_of line.now) }
+/// The row of a line; none where the line is no row's.
+pub fn read_row(alloc: Global, line: &[u8]) -> Result<Option<Row>, OutOfMemory>
+    ensures value { IfOk result (λ row. row ≡ row_of line.now) }
+    ensures some { IfOk result (λ row. IfSome row (λ r. RowLine line.now r)) }
+    ensures none { IfOk result (λ row. IfNone row (NoRow line.now)) }
 {
     let Some(parts) = parts_of_row(line) else {
         return Ok(None);

@@ -3,7 +3,7 @@ ghost use Rattle.std.specs.Prelude.{◌≡◌, IfOk};
 ghost use Rattle.iface_text.specs.Reading.{start, step, step_version, step_module, step_rows, Takes, answer_of, AnswersAs, at_end, refused_at};
 
 use crate::interface::{Iface, IfaceErr, Row};
-use crate::lines::{cut_at, name_of_module_line, row_of_line};
+use crate::lines::{cut_at, name_of_module_line, read_row};
 use name_table::NameTable;
 use scheme_data::{List, OutOfMemory, Place, Text};
 use std::alloc::Global;
@@ -81,7 +81,7 @@ impl Reader {
             self.stage = Stage::Done;
             return Ok(true);
         }
-        let Some(row) = row_of_line(alloc, line)? else {
+        let Some(row) = read_row(alloc, line)? else {
             return Ok(false);
         };
         if !self.names.insert(row.name.as_bytes())? {

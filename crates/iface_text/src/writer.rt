@@ -1,7 +1,7 @@
 // An interface's text, written row by row.
-ghost use Rattle.std.specs.Prelude.{◌≡◌, ◌++◌, ◌∷◌, [], IfOk, OnOk};
+ghost use Rattle.std.specs.Prelude.{◌≡◌, ◌++◌, IfOk, OnOk};
 ghost use Rattle.prim_table.specs.Table.{type_name};
-ghost use Rattle.iface_text.specs.Format.{iface_tree, spelling, row_line, signature, types_text, ended};
+ghost use Rattle.iface_text.specs.Format.{iface_tree, spelling, row_line, signature, types_text};
 
 use crate::interface::{Iface, Row, RowKind};
 use prim_table::Ty;
@@ -17,13 +17,15 @@ pub fn write(alloc: Global, i: &Iface) -> Result<Text, OutOfMemory>
     text.push(b'\n')?;
     for row in i.rows.as_slice() {
         write_row(&mut text, row)?;
+        text.push(b'\n')?;
     }
     text.extend(b"end\n")?;
     Ok(text)
 }
 
-fn write_row(text: &mut Text, row: &Row) -> Result<(), OutOfMemory>
-    ensures { OnOk result (text.new ≡ text.old ++ ended (row_line row.now ∷ [])) }
+/// Adds the row's line at the end of a text, without the line's end.
+pub fn write_row(text: &mut Text, row: &Row) -> Result<(), OutOfMemory>
+    ensures { OnOk result (text.new ≡ text.old ++ row_line row.now) }
 {
     text.extend(b"fun ")?;
     text.extend(row.name.as_bytes())?;
@@ -33,13 +35,12 @@ fn write_row(text: &mut Text, row: &Row) -> Result<(), OutOfMemory>
 }
 
 fn write_signature(text: &mut Text, params: &[Ty], gives: Ty) -> Result<(), OutOfMemory>
-    ensures { OnOk result (text.new ≡ text.old ++ ended (signature params.now gives ∷ [])) }
+    ensures { OnOk result (text.new ≡ text.old ++ signature params.now gives) }
 {
     text.extend(b" (")?;
     write_types(text, params)?;
     text.extend(b") ")?;
     text.extend(name_of_type(gives))?;
-    text.push(b'\n')?;
     Ok(())
 }
 
