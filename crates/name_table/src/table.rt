@@ -1,4 +1,4 @@
-ghost use Rattle.std.specs.Prelude.{◌≡◌, [], ◌∷◌, ◌++◌, length, not, if◌then◌else◌, IfOk, OnErr};
+ghost use Rattle.std.specs.Prelude.{◌≡◌, ◌<◌, [], ◌∷◌, ◌++◌, length, slice_get, Some, not, if◌then◌else◌, IfOk, OnErr};
 ghost use Rattle.name_table.specs.Names.{has_name, place_of, AreDistinct};
 
 use indexmap::IndexSet;
@@ -42,6 +42,14 @@ impl NameTable {
         ensures distinct { AreDistinct self.now }
     {
         self.names.len()
+    }
+
+    /// The name at a place.
+    pub fn name(&self, place: usize) -> &[u8]
+        requires { place < length self.now }
+        ensures { slice_get self.now place ≡ Some result.now }
+    {
+        &self.names[place]
     }
 
     /// The place of a name.

@@ -8,6 +8,7 @@ fn names_keep_the_place_of_their_first_sight(rt: HostRuntime) -> Result<(), OutO
     assert!(rt; table.insert(b"x2")?);
     assert!(rt; !table.insert(b"x1")?);
     assert_eq!(rt; table.len(), 2);
+    assert_eq!(rt; table.name(1), b"x2".as_slice());
     assert_eq!(rt; table.position(b"x1"), Some(0));
     assert_eq!(rt; table.position(b"x2"), Some(1));
     assert_eq!(rt; table.position(b"x"), None);
