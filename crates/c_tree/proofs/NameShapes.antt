@@ -9,7 +9,7 @@ use Rattle.scheme_data.specs.Decimal.{decimal_text}
 use Rattle.scheme_data.proofs.NumberTexts.{IsNumeralText, decimal_text-IsNumeralText, decimal_text_injective}
 use Rattle.c_tree.specs.declared.names.NameState.{NameState}
 use Rattle.c_tree.specs.declared.names.NameState.TheVariants.{First, FirstEscape, InModule, ModuleEscape, ModuleHex, Second, InName, NameEscape, NameHex}
-use Rattle.c_tree.specs.Names.{is_digit, is_alphanumeric, is_hex, hex_digit, mangled_byte, mangled, function_name, after_byte, after_bytes, is_function_name, is_main, is_numeral, is_local_name, is_label_name, local_name, label_name}
+use Rattle.c_tree.specs.Names.{is_digit, is_alphanumeric, is_hex, hex_digit, mangled_byte, mangled, function_name, maker_name, initializer_name, after_byte, after_bytes, is_function_name, is_main, is_numeral, is_local_name, is_label_name, local_name, label_name}
 
 -- Functions ---------------------------------------------------------------------------------
 
@@ -84,6 +84,21 @@ unfolding is_function_name
 function_name-is_function_name m n some_m some_n small_m small_n =
     let ends : after_bytes First (mangled m ++ 95 ∷ 95 ∷ mangled n) ≡ InName = module_ends m (mangled n) some_m small_m ∙ name_ends n some_n small_n in
     rw (function_name_parts m n) (rw ends refl)
+
+module_alone : (m : List ℕ) → 0 < length m → AreBytes m → after_bytes First (mangled m) ≡ InModule
+module_alone [] some small = absurd (omega arith)
+module_alone (b ∷ bs) some small =
+    pass_byte First InModule FirstEscape ModuleHex in_first b (mangled bs) (small 0)
+    ∙ ap (after_bytes InModule) (sym (append-nil (mangled bs)))
+    ∙ pass_all InModule ModuleEscape ModuleHex in_module bs [] (λ i. small (suc i))
+
+pub maker_name-is_function_name : (m : List ℕ) → 0 < length m → AreBytes m → IsTrue (is_function_name (maker_name m))
+unfolding is_function_name maker_name
+maker_name-is_function_name m some small = rw (module_alone m some small) refl
+
+pub initializer_name-is_function_name : (m : List ℕ) → 0 < length m → AreBytes m → IsTrue (is_function_name (initializer_name m))
+unfolding is_function_name initializer_name
+initializer_name-is_function_name m some small = rw (module_alone m some small) refl
 
 pub function_name_not_main : (m n : List ℕ) → is_main (function_name m n) ≡ false
 function_name_not_main m n = rw (function_name_parts m n) refl

@@ -31,6 +31,12 @@ mangled name = flat_map mangled_byte name
 unfoldable pub function_name : List ℕ → List ℕ → List ℕ
 function_name m n = codes "f_" ++ mangled m ++ codes "__" ++ mangled n
 
+unfoldable pub maker_name : List ℕ → List ℕ
+maker_name m = codes "c_" ++ mangled m
+
+unfoldable pub initializer_name : List ℕ → List ℕ
+initializer_name m = codes "i_" ++ mangled m
+
 -- after a byte of what follows `f_`: a mangled module, `__` and a mangled name, none of them empty
 abbrev pub after_byte : NameState → ℕ → NameState
 after_byte First b = if is_alphanumeric b then InModule else (if nat_eq b 95 then FirstEscape else Wrong)
@@ -57,12 +63,30 @@ is_module_function [] = false
 is_module_function (a ∷ []) = false
 is_module_function (a ∷ b ∷ rest) = nat_eq a 102 && (nat_eq b 95 && is_end (after_bytes First rest))
 
+abbrev pub is_module_end : NameState → Bool
+is_module_end InModule = true
+is_module_end _ = false
+
+-- a letter, `_` and a mangled module
+abbrev pub is_of_module : ℕ → List ℕ → Bool
+is_of_module letter [] = false
+is_of_module letter (a ∷ []) = false
+is_of_module letter (a ∷ b ∷ rest) = nat_eq a letter && (nat_eq b 95 && is_module_end (after_bytes First rest))
+
+-- the maker of module M, `c_M`
+abbrev pub is_maker : List ℕ → Bool
+is_maker word = is_of_module 99 word
+
+-- the initialisation of module M, `i_M`
+abbrev pub is_initializer : List ℕ → Bool
+is_initializer word = is_of_module 105 word
+
 abbrev pub is_main : List ℕ → Bool
 is_main word = pointwise nat_eq word (codes "main")
 
 -- a name that a function may have
 unfoldable pub is_function_name : List ℕ → Bool
-is_function_name word = is_module_function word || is_main word
+is_function_name word = is_module_function word || (is_maker word || (is_initializer word || is_main word))
 
 -- a number without leading zeros
 abbrev pub is_numeral : List ℕ → Bool

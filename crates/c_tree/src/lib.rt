@@ -16,8 +16,12 @@ mod walk;
 
 pub use function::{CFun, CItem, CProgram, CUnit};
 pub use laying::Layout;
-pub use name_tests::{names_function, names_label, names_local, names_main};
-pub use name_texts::{function_name_text, label_name_text, local_name_text};
+pub use name_tests::{
+    names_function, names_initializer, names_label, names_local, names_main, names_maker,
+};
+pub use name_texts::{
+    function_name_text, initializer_name_text, label_name_text, local_name_text, maker_name_text,
+};
 pub use names::NameState;
 pub use op::{Op, op_by_name, op_name};
 pub use order::{lay_out, pieces_in};

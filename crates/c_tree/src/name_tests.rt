@@ -1,7 +1,7 @@
 // Which words are names, in one walk over their bytes.
 ghost use Rattle.std.specs.Prelude.{◌≡◌, nat_eq, if◌then◌else◌};
 ghost use Rattle.std.specs.List.{list_all};
-ghost use Rattle.c_tree.specs.Names.{is_digit, is_alphanumeric, is_hex, is_numeral, is_main, is_module_function, is_function_name, is_local_name, is_label_name, after_byte, after_bytes, is_end};
+ghost use Rattle.c_tree.specs.Names.{is_digit, is_alphanumeric, is_hex, is_numeral, is_main, is_maker, is_initializer, is_of_module, is_module_end, is_module_function, is_function_name, is_local_name, is_label_name, after_byte, after_bytes, is_end};
 ghost use Rattle.c_tree.specs.declared.names.NameState.TheVariants.{ModuleEscape, Wrong};
 
 use crate::names::NameState;
@@ -98,6 +98,35 @@ fn names_module_function(word: &[u8]) -> bool
     word[0] == b'f' && word[1] == b'_' && is_whole(state_after(NameState::First, &word[2..]))
 }
 
+fn ends_module(state: NameState) -> bool
+    ensures { result ≡ is_module_end state }
+{
+    matches!(state, NameState::InModule)
+}
+
+fn names_module(letter: u8, word: &[u8]) -> bool
+    ensures { result ≡ is_of_module letter word.now }
+{
+    if word.len() < 2 {
+        return false;
+    }
+    word[0] == letter && word[1] == b'_' && ends_module(state_after(NameState::First, &word[2..]))
+}
+
+/// Whether a word is the name of a module's maker.
+pub fn names_maker(word: &[u8]) -> bool
+    ensures { result ≡ is_maker word.now }
+{
+    names_module(b'c', word)
+}
+
+/// Whether a word is the name of a module's initialisation.
+pub fn names_initializer(word: &[u8]) -> bool
+    ensures { result ≡ is_initializer word.now }
+{
+    names_module(b'i', word)
+}
+
 /// Whether a word is `main`.
 pub fn names_main(word: &[u8]) -> bool
     ensures { result ≡ is_main word.now }
@@ -110,7 +139,7 @@ pub fn names_main(word: &[u8]) -> bool
 pub fn names_function(word: &[u8]) -> bool
     ensures { result ≡ is_function_name word.now }
 {
-    names_module_function(word) || names_main(word)
+    names_module_function(word) || names_maker(word) || names_initializer(word) || names_main(word)
 }
 
 fn all_digits(bytes: &[u8]) -> bool

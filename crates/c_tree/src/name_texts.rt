@@ -1,6 +1,6 @@
 // The texts of names.
 ghost use Rattle.std.specs.Prelude.{◌≡◌, ◌++◌, ◌<◌, length, IfOk, OnOk, IsTrue};
-ghost use Rattle.c_tree.specs.Names.{hex_digit, mangled, mangled_byte, is_alphanumeric, function_name, is_function_name, local_name, label_name};
+ghost use Rattle.c_tree.specs.Names.{hex_digit, mangled, mangled_byte, is_alphanumeric, function_name, maker_name, initializer_name, is_function_name, local_name, label_name};
 
 use crate::name_tests::tells_alphanumeric;
 use scheme_data::{OutOfMemory, Text, push_number};
@@ -46,6 +46,28 @@ pub fn function_name_text(
     push_mangled(&mut text, module_name)?;
     text.extend(b"__")?;
     push_mangled(&mut text, name)?;
+    Ok(text)
+}
+
+/// The C name of the maker of a module.
+#[tactic(auto, unfolding(crate::specs::Names::maker_name))]
+pub fn maker_name_text(alloc: Global, module_name: &[u8]) -> Result<Text, OutOfMemory>
+    ensures value { IfOk result (λ t. t ≡ maker_name module_name.now) }
+    ensures named { IfOk result (λ t. 0 < length module_name.now → IsTrue (is_function_name t)) }
+{
+    let mut text = Text::from_bytes(alloc, b"c_")?;
+    push_mangled(&mut text, module_name)?;
+    Ok(text)
+}
+
+/// The C name of the initialisation of a module.
+#[tactic(auto, unfolding(crate::specs::Names::initializer_name))]
+pub fn initializer_name_text(alloc: Global, module_name: &[u8]) -> Result<Text, OutOfMemory>
+    ensures value { IfOk result (λ t. t ≡ initializer_name module_name.now) }
+    ensures named { IfOk result (λ t. 0 < length module_name.now → IsTrue (is_function_name t)) }
+{
+    let mut text = Text::from_bytes(alloc, b"i_")?;
+    push_mangled(&mut text, module_name)?;
     Ok(text)
 }
 

@@ -1,7 +1,8 @@
 use crate::{
     CAtom, CBlock, CExpr, CFun, CStmt, CTy, Layout, Piece, PieceRef, function_name_text,
-    label_name_text, lay_out, local_name_text, names_function, names_label, names_local,
-    names_main, pieces_in,
+    initializer_name_text, label_name_text, lay_out, local_name_text, maker_name_text,
+    names_function, names_initializer, names_label, names_local, names_main, names_maker,
+    pieces_in,
 };
 use scheme_data::{List, OutOfMemory, Text};
 use std::alloc::Global;
@@ -16,6 +17,14 @@ fn names_are_mangled_byte_by_byte(rt: HostRuntime) -> Result<(), OutOfMemory> {
     assert_eq!(rt;
         function_name_text(alloc, b"a-b", b"x?!")?.as_bytes(),
         b"f_a_2db__x_3f_21".as_slice()
+    );
+    assert_eq!(rt;
+        maker_name_text(alloc, b"a-b")?.as_bytes(),
+        b"c_a_2db".as_slice()
+    );
+    assert_eq!(rt;
+        initializer_name_text(alloc, b"m1")?.as_bytes(),
+        b"i_m1".as_slice()
     );
     assert_eq!(rt; local_name_text(alloc, 0)?.as_bytes(), b"x0".as_slice());
     assert_eq!(rt;
@@ -33,6 +42,14 @@ fn only_such_words_are_names(rt: HostRuntime) {
     assert!(rt; names_function(b"main"));
     assert!(rt; names_function(b"f_m__f1"));
     assert!(rt; names_function(b"f_a_2db__x_3f_21"));
+    assert!(rt; names_function(b"c_a_2db"));
+    assert!(rt; names_function(b"i_m"));
+    assert!(rt; names_maker(b"c_m"));
+    assert!(rt; !names_maker(b"i_m"));
+    assert!(rt; !names_maker(b"c_m__f"));
+    assert!(rt; !names_maker(b"c_"));
+    assert!(rt; names_initializer(b"i_m"));
+    assert!(rt; !names_initializer(b"i_m_2"));
     assert!(rt; !names_function(b"f_m_f1"));
     assert!(rt; !names_function(b"f_m__"));
     assert!(rt; !names_function(b"f___f1"));
