@@ -17,7 +17,7 @@ use Rattle.c_tree.specs.declared.tree.CExpr.{CExpr}
 use Rattle.c_tree.specs.declared.tree.CExpr.TheVariants as expr
 use Rattle.c_tree.specs.declared.tree.CVar.{CVar}
 use Rattle.c_tree.specs.Code.{Code, done, assign, call, return, test, loop, Fun, Item, declared, defined}
-use Rattle.c_tree.specs.Names.{is_main}
+use Rattle.c_tree.specs.Names.{is_main, is_maker, is_initializer}
 use Rattle.c_meaning.specs.Execution.{is_same}
 
 abbrev pub same_type : CTy → CTy → Bool
@@ -187,22 +187,48 @@ abbrev pub is_looped : List Signature → List CVar → CTy → Code → Bool
 is_looped sigs vars result (loop l body done) = code_fits sigs vars result body
 is_looped sigs vars result _ = false
 
--- `main` takes `void` and gives `int`, and calls functions that were declared before
-abbrev pub is_main_function : List Signature → Fun → Bool
-is_main_function sigs f = (same_type f.result Int && same_types (map (λ v. v.ty) f.params) []) && (code_fits sigs f.locals Int f.code && returns_last f.code)
+-- what a function is, by its name: `main`, the maker or the initialisation of a module, or a function of a module
+pub data Role : Type 0 where
+  Main : Role
+  Maker : Role
+  Initializer : Role
+  Function : Role
+
+abbrev pub role_of : List ℕ → Role
+role_of name = if is_main name then Main else (if is_maker name then Maker else (if is_initializer name then Initializer else Function))
+
+-- a function without a loop takes `void`, gives a type, and ends with `return`
+abbrev pub is_straight : List Signature → CTy → Fun → Bool
+is_straight sigs t f = (same_type f.result t && same_types (map (λ v. v.ty) f.params) []) && (code_fits sigs f.locals t f.code && returns_last f.code)
+
+abbrev pub has_shape : List Signature → Role → Fun → Bool
+has_shape sigs Main f = is_straight sigs Int f
+has_shape sigs Maker f = is_straight sigs Obj f
+has_shape sigs Initializer f = is_straight sigs Obj f
+has_shape sigs Function f = is_looped sigs (variables_of f) f.result f.code
 
 abbrev pub function_fits : List Signature → Fun → Bool
-function_fits sigs f =
-    are_distinct (map (λ v. v.name) (variables_of f))
-    && (if is_main f.name then is_main_function sigs f else is_looped sigs (variables_of f) f.result f.code)
+function_fits sigs f = are_distinct (map (λ v. v.name) (variables_of f)) && has_shape sigs (role_of f.name) f
 
--- what a function may call: what is declared before it and defined in the text, but not `main`
-abbrev pub callable : List (List ℕ) → List Signature → List Signature
-callable names sigs = filter (λ s. not (is_main s.name) && list_any (is_same s.name) names) sigs
+-- `main` calls all but itself, a maker calls nothing, and the others call functions of modules
+abbrev pub may_call : Role → Role → Bool
+may_call Main Main = false
+may_call Main Maker = true
+may_call Main Initializer = true
+may_call Main Function = true
+may_call Maker r = false
+may_call Initializer Function = true
+may_call Initializer _ = false
+may_call Function Function = true
+may_call Function _ = false
+
+-- what a function may call: what is declared before it and defined in the text, by its role
+abbrev pub callable : Role → List (List ℕ) → List Signature → List Signature
+callable role names sigs = filter (λ s. may_call role (role_of s.name) && list_any (is_same s.name) names) sigs
 
 abbrev pub item_fits : List (List ℕ) → List Signature → Item → Bool
 item_fits names sigs (declared t name params) = true
-item_fits names sigs (defined f) = function_fits (callable names sigs) f
+item_fits names sigs (defined f) = function_fits (callable (role_of f.name) names sigs) f
 
 -- Programs ----------------------------------------------------------------------------------
 
@@ -224,9 +250,46 @@ defined_names (defined f ∷ is) = f.name ∷ defined_names is
 unfoldable pub is_sound : List Item → Bool
 is_sound items = are_distinct (defined_names items) && items_fit (defined_names items) [] items
 
+-- Whole programs ----------------------------------------------------------------------------
+
+-- makers and initialisations are called once
+abbrev pub is_called_once : List ℕ → Bool
+is_called_once name = is_maker name || is_initializer name
+
+-- those that a call names
+abbrev pub once_in_callee : Callee → List (List ℕ)
+once_in_callee (callee.Fun name) = if is_called_once name then name ∷ [] else []
+once_in_callee (callee.Op op) = []
+
+abbrev pub once_in_expr : CExpr → List (List ℕ)
+once_in_expr (expr.Atom a) = []
+once_in_expr (expr.Call c) = once_in_callee c.callee
+
+-- and those that statements call, in text order
+abbrev pub once_in : Code → List (List ℕ)
+once_in done = []
+once_in (assign x e rest) = once_in_expr e ++ once_in rest
+once_in (call c rest) = once_in_callee c.callee ++ once_in rest
+once_in (return e rest) = once_in_expr e ++ once_in rest
+once_in (test e a b rest) = once_in_expr e ++ (once_in a ++ (once_in b ++ once_in rest))
+once_in (loop l body rest) = once_in body ++ once_in rest
+
+abbrev pub once_in_main : List Item → List (List ℕ)
+once_in_main [] = []
+once_in_main (declared t name params ∷ is) = once_in_main is
+once_in_main (defined f ∷ is) = if is_main f.name then once_in f.code else once_in_main is
+
+-- each of these that is defined is among the called
+abbrev pub all_called : List (List ℕ) → List (List ℕ) → Bool
+all_called called names = list_all (λ name. not (is_called_once name) || list_any (is_same name) called) names
+
+-- `main` calls each maker and each initialisation, at one place of its text
+abbrev pub calls_each_once : List Item → Bool
+calls_each_once items = are_distinct (once_in_main items) && all_called (once_in_main items) (defined_names items)
+
 -- and `main` is there
 unfoldable pub is_checked : List Item → Bool
-is_checked items = is_sound items && list_any is_main (defined_names items)
+is_checked items = is_sound items && (list_any is_main (defined_names items) && calls_each_once items)
 
 abbrev pub IsChecked : List Item → Type 0
 IsChecked items = IsTrue (is_checked items)

@@ -92,23 +92,37 @@ is_called name f = is_same f.name name
 abbrev pub fun_named : List Fun → List ℕ → Option Fun
 fun_named p name = find (is_called name) p
 
-module _ (p : List Fun) (lower : Lower) where
-  abbrev pub invoke : Callee → List Argument → State → Answer
-  invoke (callee.Fun g) args s = enter lower (fun_named p g) (cells args) s
-  invoke (callee.Op op) args s = operate op args s
+-- A function's statements, where functions that are called do this.
+module _ (p : List Fun) (called : Option Fun → List Cell → State → Answer) (lower : Lower) where
+  abbrev pub invoke_by : Callee → List Argument → State → Answer
+  invoke_by (callee.Fun g) args s = called (fun_named p g) (cells args) s
+  invoke_by (callee.Op op) args s = operate op args s
 
-  abbrev pub eval : Names → CExpr → Frame → State → Answer
-  eval names (expr.Atom a) f s = Has (atom names f a) s
-  eval names (expr.Call c) f s = invoke c.callee (arguments names f c.args) s
+  abbrev pub eval_by : Names → CExpr → Frame → State → Answer
+  eval_by names (expr.Atom a) f s = Has (atom names f a) s
+  eval_by names (expr.Call c) f s = invoke_by c.callee (arguments names f c.args) s
 
-  abbrev pub exec : Names → Code → Frame → State → Flow
-  exec names done f s = Next f s
-  exec names (assign x e rest) f s = with (eval names e f s) f (λ c s1. exec names rest (put (position_of x names) c f) s1)
-  exec names (call c rest) f s = with (eval names (expr.Call c) f s) f (λ _ s1. exec names rest f s1)
-  exec names (return e rest) f s = with (eval names e f s) f (λ c s1. Returns c s1)
-  exec names (test e a b rest) f s =
-      with (eval names e f s) f (λ c s1. after (chosen c s1 (exec names a f s1) (exec names b f s1)) (λ f1 s2. exec names rest f1 s2))
-  exec names (loop l body rest) f s = after (iterate lower names l body f s) (λ f1 s1. exec names rest f1 s1)
+  abbrev pub exec_by : Names → Code → Frame → State → Flow
+  exec_by names done f s = Next f s
+  exec_by names (assign x e rest) f s = with (eval_by names e f s) f (λ c s1. exec_by names rest (put (position_of x names) c f) s1)
+  exec_by names (call c rest) f s = with (eval_by names (expr.Call c) f s) f (λ _ s1. exec_by names rest f s1)
+  exec_by names (return e rest) f s = with (eval_by names e f s) f (λ c s1. Returns c s1)
+  exec_by names (test e a b rest) f s =
+      with (eval_by names e f s) f (λ c s1. after (chosen c s1 (exec_by names a f s1) (exec_by names b f s1)) (λ f1 s2. exec_by names rest f1 s2))
+  exec_by names (loop l body rest) f s = after (iterate lower names l body f s) (λ f1 s1. exec_by names rest f1 s1)
+
+-- in a function of a module, in a maker and in an initialisation: they call functions of modules alone
+abbrev pub exec : List Fun → Lower → Names → Code → Frame → State → Flow
+exec p lower names c f s = exec_by p (enter lower) lower names c f s
+
+-- what `main` calls: a function of a module, or one without a loop, which takes no turn
+abbrev pub enter_any : List Fun → Lower → Option Fun → List Cell → State → Answer
+enter_any p lower None cs s = Faults Entry s
+enter_any p lower (Some f) cs s = answer (exec p lower (names_of f) f.code (entry f cs) s)
+
+-- in `main`
+abbrev pub exec_main : List Fun → Lower → Names → Code → Frame → State → Flow
+exec_main p lower names c f s = exec_by p (enter_any p lower) lower names c f s
 
 -- with a bound that is at least the turns left
 abbrev pub run : List Fun → ℕ → Lower

@@ -6,7 +6,7 @@ use Rattle.base_io.specs.declared.end.End.TheVariants.{Ended, Raised, Spent, Fau
 use Rattle.base_io.specs.declared.end.FaultKind.TheVariants.{Tag, Entry}
 use Rattle.c_tree.specs.Code.{Fun, Item, declared, defined}
 use Rattle.c_meaning.specs.State.{Cell, AWord, ANumber, State, Flow, Next, Goes, Returns, Escapes, Raises, Spends, Fails}
-use Rattle.c_meaning.specs.Execution.{names_of, entry, exec, run, fun_named}
+use Rattle.c_meaning.specs.Execution.{names_of, entry, exec_main, run, fun_named}
 
 abbrev pub functions_of : List Item → List Fun
 functions_of [] = []
@@ -33,7 +33,7 @@ start input turns = record { heap = []; globals = []; output = []; input = input
 
 abbrev pub run_main : List Fun → Option Fun → List ℕ → ℕ → Observation
 run_main p None input turns = record { output = []; end = Fault Entry }
-run_main p (Some f) input turns = shown (exec p (run p turns) (names_of f) f.code (entry f []) (start input turns))
+run_main p (Some f) input turns = shown (exec_main p (run p turns) (names_of f) f.code (entry f []) (start input turns))
 
 -- the program's `main`
 abbrev pub main_of : List Item → Option Fun

@@ -17,7 +17,7 @@ use Rattle.c_tree.specs.declared.tree.CCall.{CCall}
 use Rattle.c_tree.specs.declared.tree.CExpr.TheVariants as expr
 use Rattle.c_tree.specs.declared.tree.CVar.{CVar}
 use Rattle.c_tree.specs.Code.{Code, done, assign, call, return, test, loop, Item, declared, defined}
-use Rattle.c_tree.specs.Names.{local_name, label_name, function_name}
+use Rattle.c_tree.specs.Names.{local_name, label_name, function_name, maker_name, initializer_name}
 use Rattle.c_meaning.specs.Program.{cm}
 use Rattle.c_meaning.specs.Checked.{is_sound, is_checked}
 
@@ -184,3 +184,65 @@ a_condition_that_is_no_int_is_not = refl
 a_fault_in_a_block_is_found : is_checked (go [] (test (expr.Atom (atom.Int (pos 1))) done (assign (local_name 9) (expr.Atom atom.Nil) done) done) ∷ main ∷ []) ≡ false
 unfolding is_checked is_sound decimal_text local_name function_name label_name
 a_fault_in_a_block_is_found = refl
+
+-- Makers and initialisations ----------------------------------------------------------------
+
+abbrev pub straight : List ℕ → Code → Item
+straight name code = defined (record { result = Obj; name = name; params = []; locals = var Obj 0 ∷ []; code = code })
+
+abbrev pub calling : List ℕ → List CArg → CCall
+calling name args = record { callee = callee.Fun name; args = args }
+
+abbrev pub maker : Code → Item
+maker code = straight (maker_name (codes "hello")) code
+
+abbrev pub initializer : Code → Item
+initializer code = straight (initializer_name (codes "hello")) code
+
+abbrev pub ends : Code
+ends = return (expr.Atom atom.Unspec) done
+
+-- `f_hello__go(1); return BGL_UNSPEC;`
+abbrev pub goes_first : Code
+goes_first = assign (local_name 0) (expr.Call (operation BoxLong (number 1 ∷ []))) (call (function (x 0 ∷ [])) ends)
+
+-- these calls, and then what `main` does
+abbrev pub main_after : (Code → Code) → Item
+main_after before = defined (record {
+  result = Int;
+  name = codes "main";
+  params = [];
+  locals = var Obj 0 ∷ var Obj 1 ∷ [];
+  code = before (assign (local_name 0) (expr.Call (operation Args [])) (assign (local_name 1) (expr.Call (function (x 0 ∷ []))) (return (expr.Call (operation Status (x 1 ∷ []))) done)));
+})
+
+abbrev pub each_once : Code → Code
+each_once rest = call (calling (maker_name (codes "hello")) []) (call (calling (initializer_name (codes "hello")) []) rest)
+
+abbrev pub shows_line : Item
+shows_line = go [] (return (expr.Call (operation (Does Newline) [])) done)
+
+-- the initialisation calls a function, which takes a turn, and then `main` does
+an_initialisation_takes_no_turn : cm (shows_line ∷ maker ends ∷ initializer goes_first ∷ main_after each_once ∷ []) [] [] 2 ≡ observation (10 ∷ 10 ∷ []) (Ended 0)
+unfolding cm decimal_text local_name function_name label_name maker_name initializer_name
+an_initialisation_takes_no_turn = refl
+
+what_an_initialisation_calls_takes_a_turn : cm (shows_line ∷ maker ends ∷ initializer goes_first ∷ main_after each_once ∷ []) [] [] 1 ≡ observation (10 ∷ []) Spent
+unfolding cm decimal_text local_name function_name label_name maker_name initializer_name
+what_an_initialisation_calls_takes_a_turn = refl
+
+each_called_once_is_checked : is_checked (shows_line ∷ maker ends ∷ initializer goes_first ∷ main_after each_once ∷ []) ≡ true
+unfolding is_checked is_sound decimal_text local_name function_name label_name maker_name initializer_name
+each_called_once_is_checked = refl
+
+never_called_is_not : is_checked (shows_line ∷ maker ends ∷ initializer goes_first ∷ main_after (λ rest. rest) ∷ []) ≡ false
+unfolding is_checked is_sound decimal_text local_name function_name label_name maker_name initializer_name
+never_called_is_not = refl
+
+called_twice_is_not : is_checked (shows_line ∷ maker ends ∷ initializer goes_first ∷ main_after (λ rest. each_once (each_once rest)) ∷ []) ≡ false
+unfolding is_checked is_sound decimal_text local_name function_name label_name maker_name initializer_name
+called_twice_is_not = refl
+
+a_maker_that_calls_is_not : is_checked (shows_line ∷ maker goes_first ∷ initializer goes_first ∷ main_after each_once ∷ []) ≡ false
+unfolding is_checked is_sound decimal_text local_name function_name label_name maker_name initializer_name
+a_maker_that_calls_is_not = refl
