@@ -1,6 +1,6 @@
 -- Names that are new one after another are distinct.
-use Rattle.std.proofs.Common.{◌≡◌, ℕ, ◌+◌, Bool, true, false, not, ◌&&◌, ◌||◌, List, [], ◌∷◌, ◌++◌, length, drop, Some, refl, sym, ap, ◌∙◌, arith, append_assoc}
-use Rattle.std.proofs.lemmas.List.{drop_all, map-append}
+use Rattle.std.proofs.Common.{◌≡◌, ℕ, ◌+◌, Bool, true, false, not, ◌&&◌, ◌||◌, List, [], ◌∷◌, ◌++◌, drop, Some, refl, sym, ap, ◌∙◌, append_assoc}
+use Rattle.std.proofs.lemmas.List.{map-append}
 use Rattle.std.proofs.lemmas.List.Folds.{list_any-append}
 use Rattle.std.specs.List.{list_all, list_any}
 use Rattle.std.specs.Cmp.Lexicographic.{nat_list_eq_equiv}
@@ -13,7 +13,7 @@ use Rattle.c_meaning.specs.Checked.{defined_names, are_distinct}
 use Rattle.name_table.specs.Names.{has_name}
 use Rattle.c_check.specs.Names.{are_fresh}
 use Rattle.c_check.specs.Variables.{names_of}
-use Rattle.c_check.specs.Programs.{MakesNames}
+use Rattle.c_check.specs.Programs.{MakesDistinct}
 
 -- none of the names was seen
 abbrev pub are_unseen : List (List ℕ) → List (List ℕ) → Bool
@@ -86,41 +86,40 @@ fresh-append seen (x ∷ xs) ys =
     associated true q r = refl
     associated false q r = refl
 
--- The loop over defined names -------------------------------------------------------------------
+-- A loop over names ----------------------------------------------------------------------------
 
-defined_names-append : (i : Item) (is : List Item) → defined_names (i ∷ is) ≡ defined_names (i ∷ []) ++ defined_names is
-defined_names-append (declared t name params) is = refl
-defined_names-append (defined f) is = refl
+-- of all the names, those that are made, and the rest
+pub record HasNames (total made rest : List (List ℕ)) : Type 0 where
+  pub fresh : are_fresh [] total ≡ are_fresh made rest
+  pub all : total ≡ made ++ rest
 
--- the names so far, and what is left of the items
-pub record HasNames (items : List CItem) (k : ℕ) (names : List (List ℕ)) : Type 0 where
-  pub fresh : are_fresh [] (defined_names (items_of items)) ≡ are_fresh names (defined_names (items_of (drop k items)))
-  pub all : defined_names (items_of items) ≡ names ++ defined_names (items_of (drop k items))
+module _ (total made rest : List (List ℕ)) (so_far : HasNames total made rest) where
+  module _ (here others : List (List ℕ)) (is : rest ≡ here ++ others) where
+    next : are_fresh [] total ≡ (are_fresh made here && are_fresh (made ++ here) others)
+    next = so_far.fresh ∙ ap (are_fresh made) is ∙ fresh-append made here others
 
-module _ (items : List CItem) (k : ℕ) (names : List (List ℕ)) (so_far : HasNames items k names) where
-  left : (item : CItem) → drop k items ≡ item ∷ drop (k + 1) items → defined_names (items_of (drop k items)) ≡ defined_names (item_of item ∷ []) ++ defined_names (items_of (drop (k + 1) items))
-  left item at = ap (λ l. defined_names (items_of l)) at ∙ defined_names-append (item_of item) (items_of (drop (k + 1) items))
+    pub names_on : (more : List (List ℕ)) → are_fresh made here ≡ true → more ≡ made ++ here → HasNames total more others
+    names_on more fits at = record {
+      fresh = next ∙ ap (λ b. b && are_fresh (made ++ here) others) fits ∙ ap (λ n. are_fresh n others) (sym at);
+      all = so_far.all ∙ ap (λ l. made ++ l) is ∙ sym (append_assoc made here others) ∙ ap (λ n. n ++ others) (sym at);
+    }
 
-  next : (item : CItem) → drop k items ≡ item ∷ drop (k + 1) items → are_fresh [] (defined_names (items_of items)) ≡ (are_fresh names (defined_names (item_of item ∷ [])) && are_fresh (names ++ defined_names (item_of item ∷ [])) (defined_names (items_of (drop (k + 1) items))))
-  next item at = so_far.fresh ∙ ap (are_fresh names) (left item at) ∙ fresh-append names (defined_names (item_of item ∷ [])) (defined_names (items_of (drop (k + 1) items)))
+    pub names_stop : are_fresh made here ≡ false → are_distinct total ≡ false
+    names_stop fails = sym (fresh-distinct total) ∙ next ∙ ap (λ b. b && are_fresh (made ++ here) others) fails
 
-  pub names_on : (item : CItem) (more : List (List ℕ)) → drop k items ≡ item ∷ drop (k + 1) items → are_fresh names (defined_names (item_of item ∷ [])) ≡ true → more ≡ names ++ defined_names (item_of item ∷ []) → HasNames items (k + 1) more
-  names_on item more at fits is = record {
-    fresh = next item at ∙ ap (λ b. b && are_fresh (names ++ defined_names (item_of item ∷ [])) (defined_names (items_of (drop (k + 1) items)))) fits ∙ ap (λ n. are_fresh n (defined_names (items_of (drop (k + 1) items)))) (sym is);
-    all = so_far.all ∙ ap (λ l. names ++ l) (left item at) ∙ sym (append_assoc names (defined_names (item_of item ∷ [])) (defined_names (items_of (drop (k + 1) items)))) ∙ ap (λ n. n ++ defined_names (items_of (drop (k + 1) items))) (sym is);
-  }
-
-  pub names_stop : (item : CItem) → drop k items ≡ item ∷ drop (k + 1) items → are_fresh names (defined_names (item_of item ∷ [])) ≡ false → are_distinct (defined_names (items_of items)) ≡ false
-  names_stop item at fails = sym (fresh-distinct (defined_names (items_of items))) ∙ next item at ∙ ap (λ b. b && are_fresh (names ++ defined_names (item_of item ∷ [])) (defined_names (items_of (drop (k + 1) items)))) fails
-
-  pub names_end : k ≡ length items → MakesNames (items_of items) (Some names)
-  names_end end =
-      let none : drop k items ≡ [] = drop_all k items (omega arith) in
-      (sym (so_far.all ∙ ap (λ l. names ++ defined_names (items_of l)) none ∙ append-nil names), sym (fresh-distinct (defined_names (items_of items))) ∙ so_far.fresh ∙ ap (λ l. are_fresh names (defined_names (items_of l))) none)
+  pub names_end : rest ≡ [] → MakesDistinct total (Some made)
+  names_end none = (sym (so_far.all ∙ ap (λ l. made ++ l) none ∙ append-nil made), sym (fresh-distinct total) ∙ so_far.fresh ∙ ap (are_fresh made) none)
     where
       append-nil : (l : List (List ℕ)) → l ++ [] ≡ l
       append-nil [] = refl
       append-nil (x ∷ xs) = ap (λ r. x ∷ r) (append-nil xs)
+
+defined-one : (i : Item) (is : List Item) → defined_names (i ∷ is) ≡ defined_names (i ∷ []) ++ defined_names is
+defined-one (declared t name params) is = refl
+defined-one (defined f) is = refl
+
+pub defined-at : (items : List CItem) (k : ℕ) (item : CItem) → drop k items ≡ item ∷ drop (k + 1) items → defined_names (items_of (drop k items)) ≡ defined_names (item_of item ∷ []) ++ defined_names (items_of (drop (k + 1) items))
+defined-at items k item at = ap (λ l. defined_names (items_of l)) at ∙ defined-one (item_of item) (items_of (drop (k + 1) items))
 
 -- The loop over variables -----------------------------------------------------------------------
 

@@ -7,7 +7,7 @@ use Rattle.c_tree.specs.declared.function.CItem.{CItem}
 use Rattle.c_tree.specs.Code.{Item}
 use Rattle.c_tree.specs.Functions.{item_of, items_of}
 use Rattle.c_tree.specs.Names.{is_main}
-use Rattle.c_meaning.specs.Checked.{Signature, signature_of, signature_named, item_fits, items_fit, defined_names, are_distinct, is_sound, is_checked}
+use Rattle.c_meaning.specs.Checked.{Signature, signature_of, signature_named, item_fits, items_fit, defined_names, are_distinct, calls_each_once, is_sound, is_checked}
 use Rattle.name_table.specs.Names.{has_name}
 use Rattle.c_check.specs.Signatures.{agrees_with, with_signature}
 use Rattle.c_check.proofs.Tables.{IsTableOf, no_signatures, with_one_more}
@@ -65,12 +65,12 @@ main_is_there (x ∷ xs) = λ i. nat_list_eq_equiv.symm (codes "main") x i || ma
 
 pub not_distinct : (items : List Item) → are_distinct (defined_names items) ≡ false → false ≡ is_checked items
 unfolding is_checked is_sound
-not_distinct items h = ap (λ b. (b && items_fit (defined_names items) [] items) && list_any is_main (defined_names items)) (sym h)
+not_distinct items h = ap (λ b. (b && items_fit (defined_names items) [] items) && (list_any is_main (defined_names items) && calls_each_once items)) (sym h)
 
-pub checked_whole : (items : List Item) (names : List (List ℕ)) (fit main : Bool) → names ≡ defined_names items → are_distinct (defined_names items) ≡ true → fit ≡ items_fit names [] items → main ≡ has_name names (codes "main") → (fit && main) ≡ is_checked items
+pub checked_whole : (items : List Item) (names : List (List ℕ)) (fit main once : Bool) → names ≡ defined_names items → are_distinct (defined_names items) ≡ true → fit ≡ items_fit names [] items → main ≡ has_name names (codes "main") → once ≡ calls_each_once items → (fit && (main && once)) ≡ is_checked items
 unfolding is_checked is_sound
-checked_whole items names fit main is distinct fits there =
-    (λ i. fits i && there i)
-    ∙ ap (λ n. items_fit n [] items && has_name n (codes "main")) is
-    ∙ ap (λ b. items_fit (defined_names items) [] items && b) (main_is_there (defined_names items))
-    ∙ ap (λ b. (b && items_fit (defined_names items) [] items) && list_any is_main (defined_names items)) (sym distinct)
+checked_whole items names fit main once is distinct fits there calls =
+    (λ i. fits i && (there i && calls i))
+    ∙ ap (λ n. items_fit n [] items && (has_name n (codes "main") && calls_each_once items)) is
+    ∙ ap (λ b. items_fit (defined_names items) [] items && (b && calls_each_once items)) (main_is_there (defined_names items))
+    ∙ ap (λ b. (b && items_fit (defined_names items) [] items) && (list_any is_main (defined_names items) && calls_each_once items)) (sym distinct)

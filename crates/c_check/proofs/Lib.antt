@@ -1,5 +1,6 @@
 pub mod Arguments
 pub mod Called
+pub mod CalledOnce
 pub mod Entries
 pub mod Flat
 pub mod Fresh

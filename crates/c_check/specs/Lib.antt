@@ -1,7 +1,9 @@
 pub mod Answers
 pub mod Entries
 pub mod Names
+pub mod Once
 pub mod Programs
+pub mod Roles
 pub mod Scopes
 pub mod Signatures
 pub mod Statements

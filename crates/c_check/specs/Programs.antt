@@ -3,7 +3,11 @@ use Rattle.std.specs.Prelude.{◌≡◌, ℕ, List, true, false, Option, Some, N
 use Rattle.c_tree.specs.Code.{Item}
 use Rattle.c_meaning.specs.Checked.{defined_names, are_distinct}
 
+-- the names themselves, where they are distinct
+abbrev pub MakesDistinct : List (List ℕ) → Option (List (List ℕ)) → Type 0
+MakesDistinct names None = are_distinct names ≡ false
+MakesDistinct names (Some made) = (made ≡ names) × (are_distinct names ≡ true)
+
 -- the names of the functions that are defined, where they are distinct
 abbrev pub MakesNames : List Item → Option (List (List ℕ)) → Type 0
-MakesNames items None = are_distinct (defined_names items) ≡ false
-MakesNames items (Some names) = (names ≡ defined_names items) × (are_distinct (defined_names items) ≡ true)
+MakesNames items names = MakesDistinct (defined_names items) names

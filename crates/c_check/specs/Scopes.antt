@@ -8,10 +8,11 @@ use Rattle.c_tree.specs.declared.tree.CStmt.{CStmt}
 use Rattle.c_tree.specs.declared.tree.CStmt.TheVariants as stmt
 use Rattle.c_tree.specs.declared.tree.CVar.{CVar}
 use Rattle.c_meaning.specs.Checked.{Signature, callable, variable_named, arguments_fit, wants_of, gives_of, assigned_fits, has_type, call_type, expr_fits}
+use Rattle.c_check.specs.Roles.{role_as}
 use Rattle.c_check.specs.declared.scope.Scope.{Scope}
 
 abbrev pub functions_of : Scope → List Signature
-functions_of s = callable s.defined.now s.declared.now
+functions_of s = callable (role_as s.role) s.defined.now s.declared.now
 
 abbrev pub variables_of : Scope → List CVar
 variables_of s = s.variables

@@ -1,23 +1,24 @@
-ghost use Rattle.std.specs.Prelude.{◌≡◌, [], map, ◌&&◌, if◌then◌else◌, IfOk};
-ghost use Rattle.c_tree.specs.Names.{is_main};
+ghost use Rattle.std.specs.Prelude.{◌≡◌, [], map, ◌&&◌, IfOk};
 ghost use Rattle.c_tree.specs.Functions.{fun_of, item_of};
-ghost use Rattle.c_meaning.specs.Checked.{same_types, callable, code_fits, returns_last, is_looped, is_main_function, function_fits, item_fits, variables_of as all_variables};
+ghost use Rattle.c_meaning.specs.Checked.{same_types, callable, code_fits, returns_last, is_looped, is_straight, role_of, has_shape, function_fits, item_fits, variables_of as all_variables};
+ghost use Rattle.c_check.specs.Roles.{role_as};
 ghost use Rattle.c_check.specs.Scopes.{functions_of, variables_of};
 
 use crate::declared::Declared;
+use crate::role::Role;
 use crate::scope::Scope;
 use crate::statements::{is_loop_to, returns_last};
-use crate::types::{is_main, same_type};
+use crate::types::same_type;
 use crate::variables::Variables;
 use c_tree::{CFun, CItem, CTy, CVar};
 use name_table::NameTable;
 use scheme_data::OutOfMemory;
 use std::alloc::Global;
 
-fn is_main_code(scope: &Scope, f: &CFun) -> bool
-    ensures { result ≡ (code_fits (functions_of scope.now) (variables_of scope.now) CTy.Int (fun_of f.now).code && returns_last (fun_of f.now).code) }
+fn is_straight_code(scope: &Scope, f: &CFun, gives: CTy) -> bool
+    ensures { result ≡ (code_fits (functions_of scope.now) (variables_of scope.now) gives (fun_of f.now).code && returns_last (fun_of f.now).code) }
 {
-    if !scope.statements_fit(f.stmts.as_slice(), CTy::Int) {
+    if !scope.statements_fit(f.stmts.as_slice(), gives) {
         return false;
     }
     returns_last(f)
@@ -41,17 +42,18 @@ fn are_none(params: &[CVar]) -> bool
     params.is_empty()
 }
 
-fn is_main_function(scope: &Scope, f: &CFun) -> bool
+// Whether a function takes `void` and gives this type, without a loop.
+fn is_straight(scope: &Scope, f: &CFun, gives: CTy) -> bool
     requires { variables_of scope.now ≡ all_variables (fun_of f.now) }
-    ensures { result ≡ is_main_function (functions_of scope.now) (fun_of f.now) }
+    ensures { result ≡ is_straight (functions_of scope.now) gives (fun_of f.now) }
 {
-    if !same_type(f.result, CTy::Int) {
+    if !same_type(f.result, gives) {
         return false;
     }
     if !are_none(f.params.as_slice()) {
         return false;
     }
-    is_main_code(scope, f)
+    is_straight_code(scope, f, gives)
 }
 
 fn function_fits(
@@ -60,12 +62,13 @@ fn function_fits(
     alloc: Global,
     f: &CFun,
 ) -> Result<bool, OutOfMemory>
-    ensures { IfOk result (λ fits. fits ≡ function_fits (callable defined.now declared.now) (fun_of f.now)) }
+    ensures { IfOk result (λ fits. fits ≡ function_fits (callable (role_of f.now.name) defined.now declared.now) (fun_of f.now)) }
 {
     match Variables::of(alloc, f)? {
         None => Ok(false),
         Some(variables) => Ok(body_fits(
             &Scope {
+                role: Role::of(f.name.as_bytes()),
                 defined,
                 declared,
                 variables,
@@ -77,12 +80,13 @@ fn function_fits(
 
 fn body_fits(scope: &Scope, f: &CFun) -> bool
     requires { variables_of scope.now ≡ all_variables (fun_of f.now) }
-    ensures { result ≡ (if is_main f.now.name then is_main_function (functions_of scope.now) (fun_of f.now) else is_looped (functions_of scope.now) (all_variables (fun_of f.now)) f.now.result (fun_of f.now).code) }
+    ensures { result ≡ has_shape (functions_of scope.now) (role_as scope.now.role) (fun_of f.now) }
 {
-    if is_main(f.name.as_bytes()) {
-        is_main_function(scope, f)
-    } else {
-        is_looped(scope, f)
+    match scope.role {
+        Role::Main => is_straight(scope, f, CTy::Int),
+        Role::Maker => is_straight(scope, f, CTy::Obj),
+        Role::Initializer => is_straight(scope, f, CTy::Obj),
+        Role::Function => is_looped(scope, f),
     }
 }
 

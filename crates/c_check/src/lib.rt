@@ -4,7 +4,9 @@
 mod checking;
 mod declared;
 mod functions;
+mod once;
 mod program;
+mod role;
 mod scope;
 mod statements;
 mod types;

@@ -7,6 +7,7 @@ ghost use Rattle.c_check.specs.Programs.{MakesNames};
 
 use crate::declared::Declared;
 use crate::functions::item_fits;
+use crate::once::calls_each_once;
 use c_tree::CItem;
 use name_table::NameTable;
 use scheme_data::OutOfMemory;
@@ -70,10 +71,13 @@ fn is_whole(alloc: Global, defined: &NameTable, items: &[CItem]) -> Result<bool,
     if !items_fit(alloc, defined, items)? {
         return Ok(false);
     }
-    Ok(defined.contains(b"main"))
+    if !defined.contains(b"main") {
+        return Ok(false);
+    }
+    calls_each_once(alloc, items)
 }
 
-/// Whether no rule is broken and `main` is there.
+/// Whether no rule is broken, `main` is there and it calls each maker and each initialisation once.
 pub fn is_checked(alloc: Global, items: &[CItem]) -> Result<bool, OutOfMemory>
     ensures { IfOk result (λ checked. checked ≡ is_checked (items_of items.now)) }
 {

@@ -6,15 +6,17 @@ ghost use Rattle.c_check.specs.Signatures.{signed};
 ghost use Rattle.c_check.specs.Scopes.{functions_of, variables_of, operation_type, statement_fits};
 
 use crate::declared::{Declared, Shape};
-use crate::types::{is_error, is_main, is_the_type, number_fits, same_type};
+use crate::role::Role;
+use crate::types::{is_error, is_the_type, number_fits, same_type};
 use crate::variables::Variables;
 use c_tree::{CArg, CAtom, CCall, CExpr, CStmt, CTy, Callee, Op};
 use name_table::NameTable;
 use prim_table::Primitive;
 
-/// What a function's statements may name.
+/// What the statements of a function with a role may name.
 #[derive(Drop)]
 pub struct Scope<'a> {
+    pub role: Role,
     pub defined: &'a NameTable,
     pub declared: &'a Declared,
     pub variables: Variables,
@@ -122,7 +124,7 @@ impl<'a> Scope<'a> {
     fn callable(&self, name: &[u8]) -> Option<&Shape>
         ensures { option_map (signed name.now) (option_copied result) ≡ signature_named (functions_of self.now) name.now }
     {
-        if is_main(name) {
+        if !self.role.may_call(Role::of(name)) {
             return None;
         }
         if !self.defined.contains(name) {

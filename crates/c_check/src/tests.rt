@@ -39,15 +39,26 @@ enum Change {
     CallInALoop,
     CallOfMainInALoop,
     CallOfNoneInALoop,
+    MakerAndInitializer,
+    MakerThatCalls,
+    InitializerCallsInitializer,
+    InitializerCalledInALoop,
+    MakerCalledTwice,
+    InitializerInBothBlocks,
+    InitializerNeverCalled,
+    InitializerWithParameter,
+    InitializerThatGivesLong,
+    InitializerWithoutReturn,
 }
 
-const KEPT: [Change; 3] = [
+const KEPT: [Change; 4] = [
     Change::Nothing,
     Change::ConditionOfTruth,
     Change::CallInALoop,
+    Change::MakerAndInitializer,
 ];
 
-const BROKEN: [Change; 27] = [
+const BROKEN: [Change; 36] = [
     Change::UndeclaredLocal,
     Change::WrongType,
     Change::WrongTypeOfResult,
@@ -75,9 +86,41 @@ const BROKEN: [Change; 27] = [
     Change::LoopInALoop,
     Change::CallOfMainInALoop,
     Change::CallOfNoneInALoop,
+    Change::MakerThatCalls,
+    Change::InitializerCallsInitializer,
+    Change::InitializerCalledInALoop,
+    Change::MakerCalledTwice,
+    Change::InitializerInBothBlocks,
+    Change::InitializerNeverCalled,
+    Change::InitializerWithParameter,
+    Change::InitializerThatGivesLong,
+    Change::InitializerWithoutReturn,
 ];
 
 const FUNCTION: &[u8] = b"f_m__n";
+
+const MAKER: &[u8] = b"c_m";
+
+const INITIALIZER: &[u8] = b"i_m";
+
+const OTHER_INITIALIZER: &[u8] = b"i_o";
+
+// Whether the program has a maker and an initialisation.
+fn has_parts(change: Change) -> bool {
+    matches!(
+        change,
+        Change::MakerAndInitializer
+            | Change::MakerThatCalls
+            | Change::InitializerCallsInitializer
+            | Change::InitializerCalledInALoop
+            | Change::MakerCalledTwice
+            | Change::InitializerInBothBlocks
+            | Change::InitializerNeverCalled
+            | Change::InitializerWithParameter
+            | Change::InitializerThatGivesLong
+            | Change::InitializerWithoutReturn
+    )
+}
 
 fn name(alloc: Global, bytes: &[u8]) -> Result<CAtom, OutOfMemory> {
     Ok(CAtom::Name(Text::from_bytes(alloc, bytes)?))
@@ -125,15 +168,19 @@ fn main_declaration(alloc: Global) -> Result<CItem, OutOfMemory> {
     ))
 }
 
+fn call_of(alloc: Global, bytes: &[u8]) -> Result<CCall, OutOfMemory> {
+    Ok(CCall {
+        callee: Callee::Fun(Text::from_bytes(alloc, bytes)?),
+        args: List::new(alloc),
+    })
+}
+
 // `f_m__n(x1)`
 fn function_call(alloc: Global, change: Change) -> Result<CCall, OutOfMemory> {
-    let mut args = List::new(alloc);
     if change == Change::CallOfMain {
-        return Ok(CCall {
-            callee: Callee::Fun(Text::from_bytes(alloc, b"main")?),
-            args,
-        });
+        return call_of(alloc, b"main");
     }
+    let mut args = List::new(alloc);
     args.push(argument(alloc, change)?)?;
     if change == Change::TooManyArguments {
         args.push(CArg::Atom(CAtom::Nil))?;
@@ -240,8 +287,58 @@ fn push_return(alloc: Global, change: Change, pieces: &mut List<Piece>) -> Resul
     Ok(())
 }
 
+fn push_call(alloc: Global, bytes: &[u8], pieces: &mut List<Piece>) -> Result<(), OutOfMemory> {
+    pieces.push(Piece::Call(call_of(alloc, bytes)?))?;
+    Ok(())
+}
+
+// `i_m();`, with `x1` where it has a parameter
+fn push_initializer_call(
+    alloc: Global,
+    change: Change,
+    pieces: &mut List<Piece>,
+) -> Result<(), OutOfMemory> {
+    let mut call = call_of(alloc, INITIALIZER)?;
+    if change == Change::InitializerWithParameter {
+        call.args.push(CArg::Atom(name(alloc, b"x1")?))?;
+    }
+    pieces.push(Piece::Call(call))?;
+    Ok(())
+}
+
+// `if (x4) { i_m(); } else { i_m(); }`
+fn push_either(alloc: Global, change: Change, pieces: &mut List<Piece>) -> Result<(), OutOfMemory> {
+    pieces.push(Piece::If(condition(alloc, change)?))?;
+    push_initializer_call(alloc, change, pieces)?;
+    pieces.push(Piece::Else)?;
+    push_initializer_call(alloc, change, pieces)?;
+    pieces.push(Piece::End)?;
+    Ok(())
+}
+
+// `c_m(); i_m();`
+fn push_calls(alloc: Global, change: Change, pieces: &mut List<Piece>) -> Result<(), OutOfMemory> {
+    push_call(alloc, MAKER, pieces)?;
+    if change == Change::MakerCalledTwice {
+        push_call(alloc, MAKER, pieces)?;
+    }
+    if change == Change::InitializerInBothBlocks {
+        return push_either(alloc, change, pieces);
+    }
+    if change != Change::InitializerNeverCalled {
+        push_initializer_call(alloc, change, pieces)?;
+    }
+    if change == Change::InitializerCallsInitializer {
+        push_call(alloc, OTHER_INITIALIZER, pieces)?;
+    }
+    Ok(())
+}
+
 fn main_pieces(alloc: Global, change: Change) -> Result<List<Piece>, OutOfMemory> {
     let mut pieces = List::new(alloc);
+    if has_parts(change) {
+        push_calls(alloc, change, &mut pieces)?;
+    }
     let first: &[u8] = if change == Change::WrongType {
         b"x2"
     } else {
@@ -293,15 +390,13 @@ fn main_function(alloc: Global, change: Change) -> Result<CFun, CheckErr> {
     })
 }
 
-// What the function with a loop calls: itself, `main`, or what is not declared.
+// What the function with a loop calls: itself, `main`, the initialisation, or what is not declared.
 fn called_in_loop(alloc: Global, change: Change) -> Result<Option<CCall>, OutOfMemory> {
     match change {
         Change::CallInALoop => Ok(Some(function_call(alloc, change)?)),
         Change::CallOfMainInALoop => Ok(Some(function_call(alloc, Change::CallOfMain)?)),
-        Change::CallOfNoneInALoop => Ok(Some(CCall {
-            callee: Callee::Fun(Text::from_bytes(alloc, b"f_m__o")?),
-            args: List::new(alloc),
-        })),
+        Change::CallOfNoneInALoop => Ok(Some(call_of(alloc, b"f_m__o")?)),
+        Change::InitializerCalledInALoop => Ok(Some(call_of(alloc, INITIALIZER)?)),
         _ => Ok(None),
     }
 }
@@ -352,11 +447,85 @@ fn looped_function(alloc: Global, change: Change) -> Result<CFun, CheckErr> {
     })
 }
 
+fn straight_function(
+    alloc: Global,
+    bytes: &[u8],
+    params: List<CVar>,
+    gives: CTy,
+    pieces: List<Piece>,
+) -> Result<CFun, CheckErr> {
+    let layout = laid_out(alloc, pieces)?;
+    Ok(CFun {
+        result: gives,
+        name: Text::from_bytes(alloc, bytes)?,
+        params,
+        locals: List::new(alloc),
+        body: layout.body,
+        stmts: layout.stmts,
+    })
+}
+
+// `f_m__n(BGL_NIL);`
+fn push_function_call(alloc: Global, pieces: &mut List<Piece>) -> Result<(), OutOfMemory> {
+    let mut call = call_of(alloc, FUNCTION)?;
+    call.args.push(CArg::Atom(CAtom::Nil))?;
+    pieces.push(Piece::Call(call))?;
+    Ok(())
+}
+
+// `obj c_m(void) { return BGL_UNSPEC; }`
+fn maker(alloc: Global, change: Change) -> Result<CFun, CheckErr> {
+    let mut pieces = List::new(alloc);
+    if change == Change::MakerThatCalls {
+        push_function_call(alloc, &mut pieces)?;
+    }
+    pieces.push(Piece::Return(CExpr::Atom(CAtom::Unspec)))?;
+    straight_function(alloc, MAKER, List::new(alloc), CTy::Obj, pieces)
+}
+
+// `obj i_m(void) { f_m__n(BGL_NIL); return BGL_UNSPEC; }`
+fn initializer(alloc: Global, change: Change) -> Result<CFun, CheckErr> {
+    let mut params = List::new(alloc);
+    if change == Change::InitializerWithParameter {
+        params.push(var(alloc, CTy::Obj, b"x1")?)?;
+    }
+    let mut pieces = List::new(alloc);
+    push_function_call(alloc, &mut pieces)?;
+    if change == Change::InitializerThatGivesLong {
+        pieces.push(Piece::Return(number(1)))?;
+        return straight_function(alloc, INITIALIZER, params, CTy::Long, pieces);
+    }
+    if change != Change::InitializerWithoutReturn {
+        pieces.push(Piece::Return(CExpr::Atom(CAtom::Unspec)))?;
+    }
+    straight_function(alloc, INITIALIZER, params, CTy::Obj, pieces)
+}
+
+// `obj i_o(void) { i_m(); return BGL_UNSPEC; }`
+fn other_initializer(alloc: Global) -> Result<CFun, CheckErr> {
+    let mut pieces = List::new(alloc);
+    push_call(alloc, INITIALIZER, &mut pieces)?;
+    pieces.push(Piece::Return(CExpr::Atom(CAtom::Unspec)))?;
+    straight_function(alloc, OTHER_INITIALIZER, List::new(alloc), CTy::Obj, pieces)
+}
+
+fn push_parts(alloc: Global, change: Change, items: &mut List<CItem>) -> Result<(), CheckErr> {
+    items.push(CItem::Defined(maker(alloc, change)?))?;
+    items.push(CItem::Defined(initializer(alloc, change)?))?;
+    if change == Change::InitializerCallsInitializer {
+        items.push(CItem::Defined(other_initializer(alloc)?))?;
+    }
+    Ok(())
+}
+
 fn program(alloc: Global, change: Change) -> Result<CProgram, CheckErr> {
     let mut items = List::new(alloc);
     items.push(main_declaration(alloc)?)?;
     if change != Change::CallBeforeDeclaration {
         items.push(declaration(alloc, change)?)?;
+    }
+    if has_parts(change) {
+        push_parts(alloc, change, &mut items)?;
     }
     if change != Change::NoMain {
         items.push(CItem::Defined(main_function(alloc, change)?))?;
@@ -382,8 +551,10 @@ fn is_refused(alloc: Global, change: Change) -> Result<bool, CheckErr> {
 fn programs_that_break_no_rule_are_kept(rt: HostRuntime) -> Result<(), CheckErr> {
     let alloc = rt.alloc();
     for change in KEPT {
-        let checked = check(alloc, program(alloc, change)?)?;
-        assert_eq!(rt; checked.program().items.len(), 4);
+        let program = program(alloc, change)?;
+        let count = program.items.len();
+        let checked = check(alloc, program)?;
+        assert_eq!(rt; checked.program().items.len(), count);
     }
     Ok(())
 }

@@ -1,6 +1,5 @@
 ghost use Rattle.std.specs.Prelude.{◌≡◌};
 ghost use Rattle.scheme_data.specs.Fixnum.{is_fixnum};
-ghost use Rattle.c_tree.specs.Names.{is_main};
 ghost use Rattle.c_meaning.specs.Checked.{same_type, same_types, is_byte, number_fits, is_error, is_the_type};
 
 use c_tree::CTy;
@@ -53,10 +52,4 @@ pub fn is_error(n: i64) -> bool
     ensures { result ≡ is_error n }
 {
     1 <= n && n <= 10
-}
-
-pub fn is_main(name: &[u8]) -> bool
-    ensures { result ≡ is_main name.now }
-{
-    name == b"main".as_slice()
 }
