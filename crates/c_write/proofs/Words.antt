@@ -1,5 +1,5 @@
 -- Names, numbers and operations are words.
-use Rattle.std.proofs.Common.{◌≡◌, ℕ, List, [], ◌∷◌, refl, sym, subst, ℤ, pos, negsuc, arith}
+use Rattle.std.proofs.Common.{◌≡◌, ℕ, List, [], ◌∷◌, refl, sym, ap, ◌∙◌, subst, ℤ, pos, negsuc, arith}
 use Rattle.std.specs.Prelude.{Bool, true, false, ◌&&◌, ◌||◌, nat_eq, nat_le, nat_lt, codes, IsTrue}
 use Rattle.std.specs.List.{list_all}
 use Rattle.std.specs.Cmp.Lexicographic.{same_text}
@@ -13,7 +13,7 @@ use Rattle.c_tree.specs.declared.op.Op.{Op}
 use Rattle.c_tree.specs.declared.op.Op.TheVariants.{BoxLong, BoxBool, UnboxLong, Truth, Raise, Args, Status, Primitive as Does}
 use Rattle.c_tree.specs.declared.names.NameState.{NameState}
 use Rattle.c_tree.specs.declared.names.NameState.TheVariants.{First, FirstEscape, InModule, ModuleEscape, ModuleHex, Second, InName, NameEscape, NameHex, Wrong}
-use Rattle.c_tree.specs.Names.{is_digit, is_alphanumeric, is_hex, after_byte, after_bytes, is_end, is_module_function, is_function_name, is_main, is_numeral, is_local_name, is_label_name}
+use Rattle.c_tree.specs.Names.{is_digit, is_alphanumeric, is_hex, after_byte, after_bytes, is_end, is_module_end, is_of_module, is_module_function, is_maker, is_initializer, is_function_name, is_main, is_numeral, is_local_name, is_label_name}
 use Rattle.c_tree.specs.Operations.{op_text}
 use Rattle.c_tree.specs.Lexical.{is_word_byte}
 use Rattle.c_tree.specs.declared.tree.CTy.{CTy}
@@ -103,36 +103,58 @@ wrong_byte NameEscape b h = rw (no_hex b h) refl
 wrong_byte NameHex b h = rw (no_hex b h) refl
 wrong_byte Wrong b h = refl
 
-ended_wrong : (bs : List ℕ) → is_end (after_bytes Wrong bs) ≡ true → ⊥
-ended_wrong bs h = let stays : after_bytes Wrong bs ≡ Wrong = wrong_stays bs in let ended : is_end Wrong ≡ true = rw stays at h in absurd (cc)
+-- a name ends in no wrong state
+module _ (ends : NameState → Bool) (wrong : ends Wrong ≡ false) where
+  ended_wrong : (bs : List ℕ) → ends (after_bytes Wrong bs) ≡ true → ⊥
+  ended_wrong bs h = let ended : false ≡ true = sym wrong ∙ ap ends (sym (wrong_stays bs)) ∙ h in absurd (cc)
 
-ended_by : (t : Bool) (s : NameState) (b : ℕ) (bs : List ℕ) → is_word_byte b ≡ t → is_end (after_bytes (after_byte s b) bs) ≡ true → t ≡ true
-ended_by true s b bs e h = refl
-ended_by false s b bs e h = absurd (ended_wrong bs (rw (wrong_byte s b e) at h))
+  ended_by : (t : Bool) (s : NameState) (b : ℕ) (bs : List ℕ) → is_word_byte b ≡ t → ends (after_bytes (after_byte s b) bs) ≡ true → t ≡ true
+  ended_by true s b bs e h = refl
+  ended_by false s b bs e h = absurd (ended_wrong bs (rw (wrong_byte s b e) at h))
 
-ended_bytes : (s : NameState) (bs : List ℕ) → is_end (after_bytes s bs) ≡ true → list_all is_word_byte bs ≡ true
-ended_bytes s [] h = refl
-ended_bytes s (b ∷ bs) h =
-    and_from (is_word_byte b) (list_all is_word_byte bs) (ended_by (is_word_byte b) s b bs refl h) (ended_bytes (after_byte s b) bs h)
+  ended_bytes : (s : NameState) (bs : List ℕ) → ends (after_bytes s bs) ≡ true → list_all is_word_byte bs ≡ true
+  ended_bytes s [] h = refl
+  ended_bytes s (b ∷ bs) h =
+      and_from (is_word_byte b) (list_all is_word_byte bs) (ended_by (is_word_byte b) s b bs refl h) (ended_bytes (after_byte s b) bs h)
+
+  -- a letter, `_` and what leads to such an end
+  ended_run : (letter : ℕ) → ((a : ℕ) → nat_eq a letter ≡ true → is_word_byte a ≡ true) → (a b : ℕ) (rest : List ℕ) → (nat_eq a letter && (nat_eq b 95 && ends (after_bytes First rest))) ≡ true → is_run (a ∷ b ∷ rest) ≡ true
+  ended_run letter may a b rest h =
+      let first = and_parts (nat_eq a letter) (nat_eq b 95 && ends (after_bytes First rest)) h in
+      let second = and_parts (nat_eq b 95) (ends (after_bytes First rest)) first.1 in
+      let b_in : is_word_byte b ≡ true = (let is_line = second.0 in grind (arith, nat_tests)) in
+      and_from (is_word_byte a) (is_word_byte b && list_all is_word_byte rest) (may a first.0)
+      (and_from (is_word_byte b) (list_all is_word_byte rest) b_in (ended_bytes First rest second.1))
 
 module_function_run : (word : List ℕ) → is_module_function word ≡ true → is_run word ≡ true
 module_function_run [] h = h
 module_function_run (a ∷ []) h = absurd (cc)
-module_function_run (a ∷ b ∷ rest) h =
-    let first = and_parts (nat_eq a 102) (nat_eq b 95 && is_end (after_bytes First rest)) h in
-    let second = and_parts (nat_eq b 95) (is_end (after_bytes First rest)) first.1 in
-    let a_in : is_word_byte a ≡ true = (let is_f = first.0 in grind (arith, nat_tests)) in
-    let b_in : is_word_byte b ≡ true = (let is_line = second.0 in grind (arith, nat_tests)) in
-    and_from (is_word_byte a) (is_word_byte b && list_all is_word_byte rest) a_in
-    (and_from (is_word_byte b) (list_all is_word_byte rest) b_in (ended_bytes First rest second.1))
+module_function_run (a ∷ b ∷ rest) h = ended_run is_end refl 102 (λ x is_f. grind (arith, nat_tests)) a b rest h
 
-function_word_by : (t : Bool) (word : List ℕ) → is_module_function word ≡ t → (t || is_main word) ≡ true → is_word word ≡ true
-function_word_by true word e h = run_word word (module_function_run word e)
-function_word_by false word e h = subst (λ w. is_word w ≡ true) (sym (same_text word (codes "main") (sym h))) refl
+of_module_run : (letter : ℕ) → ((a : ℕ) → nat_eq a letter ≡ true → is_word_byte a ≡ true) → (word : List ℕ) → is_of_module letter word ≡ true → is_run word ≡ true
+of_module_run letter may [] h = absurd (cc)
+of_module_run letter may (a ∷ []) h = absurd (cc)
+of_module_run letter may (a ∷ b ∷ rest) h = ended_run is_module_end refl letter may a b rest h
+
+maker_run : (word : List ℕ) → is_maker word ≡ true → is_run word ≡ true
+maker_run word h = of_module_run 99 (λ x is_c. grind (arith, nat_tests)) word h
+
+initializer_run : (word : List ℕ) → is_initializer word ≡ true → is_run word ≡ true
+initializer_run word h = of_module_run 105 (λ x is_i. grind (arith, nat_tests)) word h
+
+main_word : (word : List ℕ) → is_main word ≡ true → is_word word ≡ true
+main_word word h = subst (λ w. is_word w ≡ true) (sym (same_text word (codes "main") (sym h))) refl
+
+or_cases : (a b : Bool) (P : Type 0) → (a ≡ true → P) → (b ≡ true → P) → (a || b) ≡ true → P
+or_cases true b P one other h = one refl
+or_cases false b P one other h = other h
 
 pub function_word : (word : List ℕ) → IsTrue (is_function_name word) → IsTrue (is_word word)
 unfolding is_function_name
-function_word word h = function_word_by (is_module_function word) word refl h
+function_word word h =
+    or_cases (is_module_function word) (is_maker word || (is_initializer word || is_main word)) (IsTrue (is_word word)) (λ e. run_word word (module_function_run word e))
+    (λ k. or_cases (is_maker word) (is_initializer word || is_main word) (IsTrue (is_word word)) (λ e. run_word word (maker_run word e))
+    (λ l. or_cases (is_initializer word) (is_main word) (IsTrue (is_word word)) (λ e. run_word word (initializer_run word e)) (λ e. main_word word e) l) k) h
 
 pub op_word : (op : Op) → IsTrue (is_word (op_text op))
 op_word BoxLong = refl
