@@ -3,21 +3,21 @@ use Rattle.std.proofs.Common.{◌≡◌, ℕ, zero, suc, Bool, true, false, not,
 use Rattle.std.specs.Prelude.{codes, find}
 use Rattle.std.specs.List.{list_any, list_all}
 use Rattle.std.specs.Cmp.Lexicographic.{nat_list_eq_equiv, same_text}
-use Rattle.std.proofs.lemmas.Bool.{and_parts, and_from, not-true}
+use Rattle.std.proofs.lemmas.Bool.{and_parts, and_from}
 use Rattle.c_tree.specs.declared.tree.CTy.{CTy}
-use Rattle.c_tree.specs.declared.tree.CTy.TheVariants.{Int}
+use Rattle.c_tree.specs.declared.tree.CTy.TheVariants.{Obj, Int}
 use Rattle.c_tree.specs.declared.tree.CVar.{CVar}
 use Rattle.c_tree.specs.declared.function.CFun.{CFun}
 use Rattle.c_tree.specs.declared.function.CItem.{CItem}
 use Rattle.c_tree.specs.declared.function.CItem.TheVariants.{Declared, Defined}
 use Rattle.c_tree.specs.Code.{Code, done, assign, call, return, test, loop, defined}
 use Rattle.c_tree.specs.Functions.{fun_of, item_of, items_of}
-use Rattle.c_tree.specs.Names.{is_main}
+use Rattle.c_tree.specs.Names.{is_main, is_maker, is_initializer}
 use Rattle.c_meaning.specs.Execution.{is_same, position_of, fun_named}
 use Rattle.c_meaning.specs.Program.{functions_of}
-use Rattle.c_meaning.specs.Checked.{Signature, signature_of, signature_named, same_type, same_types, same_signature, are_distinct, code_fits, returns_last, is_looped, is_main_function, function_fits, callable, item_fits, agrees, items_fit, defined_names, is_sound, is_checked, IsChecked}
+use Rattle.c_meaning.specs.Checked.{Role, Main as Main_role, Maker, Initializer, Function, role_of, Signature, signature_of, signature_named, same_type, same_types, same_signature, are_distinct, code_fits, returns_last, is_looped, is_straight, has_shape, function_fits, may_call, callable, item_fits, agrees, items_fit, defined_names, calls_each_once, is_sound, is_checked, IsChecked}
 use Rattle.c_machine.specs.Decoded.{variables_of, variable_names, definitions, function_names, has_distinct, HasNames}
-use Rattle.c_machine.proofs.Means.{meant, Straight, shape_of, statements_of, statements_in, shape_in, Callee, Typed, AllTyped}
+use Rattle.c_machine.proofs.Means.{meant, Shape, Straight, shape_of, statements_of, statements_in, shape_in, Inner, Outer, level_by, level_in, ShapeFits, Callable, Callee, Typed, AllTyped}
 use Rattle.c_machine.proofs.Leading.{straight}
 use Rattle.c_machine.proofs.Typing.{same_type_is}
 use Rattle.c_machine.proofs.Sound.{place_in}
@@ -122,7 +122,7 @@ ends_have sigs (Defined f ∷ is) (suc k) h e = ends_have (signature_in f ∷ si
 -- a function, checked with the signatures before it
 record CheckedAt (names : List (List ℕ)) (all : List Signature) (f : CFun) : Type 0 where
   sigs : List Signature
-  fits : function_fits (callable names sigs) (fun_of f) ≡ true
+  fits : function_fits (callable (role_of f.name) names sigs) (fun_of f) ≡ true
   among : (t : Signature) → Member t sigs → Member t all
 
 checked_at : (names : List (List ℕ)) (sigs : List Signature) (is : List CItem) (k : ℕ) (f : CFun) → items_fit names sigs (items_of is) ≡ true → slice_get (definitions is) k ≡ Some f → CheckedAt names (ends sigs is) f
@@ -139,7 +139,7 @@ checked_at names sigs (Defined g ∷ is) zero f h e =
     let same : g ≡ f = cc in
     record {
       sigs = sigs;
-      fits = subst (λ (x : CFun). function_fits (callable names sigs) (fun_of x) ≡ true) same q.1;
+      fits = subst (λ (x : CFun). function_fits (callable (role_of x.name) names sigs) (fun_of x) ≡ true) same q.1;
       among = λ t m. ends_keep t (s ∷ sigs) is (inr m);
     }
 checked_at names sigs (Defined g ∷ is) (suc k) f h e =
@@ -158,7 +158,7 @@ all_distinct names sigs (Defined g ∷ is) h =
     let s = signature_in g in
     let p = and_parts (agrees sigs s && item_fits names sigs (item_of (Defined g))) (items_fit names (s ∷ sigs) (items_of is)) h in
     let q = and_parts (agrees sigs s) (item_fits names sigs (item_of (Defined g))) p.0 in
-    let r = and_parts (are_distinct (variable_names (variables_of g))) (if is_main g.name then is_main_function (callable names sigs) (fun_of g) else is_looped (callable names sigs) (variables_of g) g.result (statements_in g)) q.1 in
+    let r = and_parts (are_distinct (variable_names (variables_of g))) (has_shape (callable (role_of g.name) names sigs) (role_of g.name) (fun_of g)) q.1 in
     and_from (has_distinct g) (list_all has_distinct (definitions is)) r.0 (all_distinct names (s ∷ sigs) is p.1)
 
 -- Functions by name -------------------------------------------------------------------------
@@ -200,35 +200,36 @@ any_flipped g (n ∷ names) = ap (λ b. b || list_any (λ y. is_same y g) names)
 -- Callees -----------------------------------------------------------------------------------
 
 -- a signature that a function may call
-record Called (names : List (List ℕ)) (sigs : List Signature) (g : List ℕ) (s : Signature) : Type 0 where
+record Called (role : Role) (names : List (List ℕ)) (sigs : List Signature) (g : List ℕ) (s : Signature) : Type 0 where
   among : Member s sigs
   is_there : list_any (is_same s.name) names ≡ true
-  no_main : is_main s.name ≡ false
+  may : may_call role (role_of s.name) ≡ true
   named : is_same s.name g ≡ true
 
-abbrev is_callable : List (List ℕ) → Signature → Bool
-is_callable names s = not (is_main s.name) && list_any (is_same s.name) names
+abbrev is_callable : Role → List (List ℕ) → Signature → Bool
+is_callable role names s = may_call role (role_of s.name) && list_any (is_same s.name) names
 
-called_more : (names : List (List ℕ)) (t : Signature) (sigs : List Signature) (g : List ℕ) (s : Signature) → Called names sigs g s → Called names (t ∷ sigs) g s
-called_more names t sigs g s c = record { among = inr c.among; is_there = c.is_there; no_main = c.no_main; named = c.named }
+module _ (role : Role) (names : List (List ℕ)) where
+  called_more : (t : Signature) (sigs : List Signature) (g : List ℕ) (s : Signature) → Called role names sigs g s → Called role names (t ∷ sigs) g s
+  called_more t sigs g s c = record { among = inr c.among; is_there = c.is_there; may = c.may; named = c.named }
 
-called_in : (names : List (List ℕ)) (t : Signature) (sigs : List Signature) (g : List ℕ) (s : Signature) (b c : Bool) → is_callable names t ≡ b → is_same t.name g ≡ c → (signature_named (callable names sigs) g ≡ Some s → Called names sigs g s) → find (λ (x : Signature). is_same x.name g) (cond b (t ∷ callable names sigs) (callable names sigs)) ≡ Some s → Called names (t ∷ sigs) g s
-called_in names t sigs g s true true eb ec rest h =
-    let first : Some t ≡ Some s = ap (λ (c : Bool). cond c (Some t) (signature_named (callable names sigs) g)) (sym ec) ∙ h in
-    let same : t ≡ s = cc in
-    let p = and_parts (not (is_main t.name)) (list_any (is_same t.name) names) eb in
-    record {
-      among = inl (sym same);
-      is_there = subst (λ (x : Signature). list_any (is_same x.name) names ≡ true) same p.1;
-      no_main = subst (λ (x : Signature). is_main x.name ≡ false) same (not-true (is_main t.name) p.0);
-      named = subst (λ (x : Signature). is_same x.name g ≡ true) same ec;
-    }
-called_in names t sigs g s true false eb ec rest h = called_more names t sigs g s (rest (ap (λ (c : Bool). cond c (Some t) (signature_named (callable names sigs) g)) (sym ec) ∙ h))
-called_in names t sigs g s false c eb ec rest h = called_more names t sigs g s (rest h)
+  called_in : (t : Signature) (sigs : List Signature) (g : List ℕ) (s : Signature) (b c : Bool) → is_callable role names t ≡ b → is_same t.name g ≡ c → (signature_named (callable role names sigs) g ≡ Some s → Called role names sigs g s) → find (λ (x : Signature). is_same x.name g) (cond b (t ∷ callable role names sigs) (callable role names sigs)) ≡ Some s → Called role names (t ∷ sigs) g s
+  called_in t sigs g s true true eb ec rest h =
+      let first : Some t ≡ Some s = ap (λ (c : Bool). cond c (Some t) (signature_named (callable role names sigs) g)) (sym ec) ∙ h in
+      let same : t ≡ s = cc in
+      let p = and_parts (may_call role (role_of t.name)) (list_any (is_same t.name) names) eb in
+      record {
+        among = inl (sym same);
+        is_there = subst (λ (x : Signature). list_any (is_same x.name) names ≡ true) same p.1;
+        may = subst (λ (x : Signature). may_call role (role_of x.name) ≡ true) same p.0;
+        named = subst (λ (x : Signature). is_same x.name g ≡ true) same ec;
+      }
+  called_in t sigs g s true false eb ec rest h = called_more t sigs g s (rest (ap (λ (c : Bool). cond c (Some t) (signature_named (callable role names sigs) g)) (sym ec) ∙ h))
+  called_in t sigs g s false c eb ec rest h = called_more t sigs g s (rest h)
 
-called : (names : List (List ℕ)) (sigs : List Signature) (g : List ℕ) (s : Signature) → signature_named (callable names sigs) g ≡ Some s → Called names sigs g s
-called names [] g s h = absurd (cc)
-called names (t ∷ sigs) g s h = called_in names t sigs g s (is_callable names t) (is_same t.name g) refl refl (called names sigs g s) h
+  called : (sigs : List Signature) (g : List ℕ) (s : Signature) → signature_named (callable role names sigs) g ≡ Some s → Called role names sigs g s
+  called [] g s h = absurd (cc)
+  called (t ∷ sigs) g s h = called_in t sigs g s (is_callable role names t) (is_same t.name g) refl refl (called sigs g s) h
 
 -- Functions ---------------------------------------------------------------------------------
 
@@ -257,22 +258,76 @@ loop_fits sigs vars t c h =
     let fits : is_looped sigs vars t (loop l.label l.block done) ≡ true = subst (λ (d : Code). is_looped sigs vars t d ≡ true) l.is h in
     subst (λ (d : Code). code_fits sigs vars t (statements_of (shape_of d)) ≡ true) (sym l.is) fits
 
--- what is known of `main`
-pub record IsMain (sigs : List Signature) (f : CFun) : Type 0 where
-  pub params : f.params ≡ []
-  pub result : f.result ≡ Int
-  pub fits : code_fits sigs f.locals Int (statements_in f) ≡ true
+loop_called : (sigs : List Signature) (vars : List CVar) (t : CTy) (c : Code) → is_looped sigs vars t c ≡ true → Callable Inner (shape_of c)
+loop_called sigs vars t c h = subst (λ (d : Code). Callable Inner (shape_of d)) (sym (loop_of sigs vars t c h).is) tt
+
+-- what is known of a function without a loop
+record IsStraight (sigs : List Signature) (t : CTy) (f : CFun) : Type 0 where
+  params : f.params ≡ []
+  result : f.result ≡ t
+  fits : code_fits sigs (variables_of f) f.result (statements_in f) ≡ true
+  shape : shape_in f ≡ Straight (statements_in f)
 
 no_params : (ps : List CVar) → same_types (map (λ v. v.ty) ps) [] ≡ true → ps ≡ []
 no_params [] h = refl
 no_params (p ∷ ps) h = absurd (cc)
 
-main_of_fits : (sigs : List Signature) (f : CFun) → is_main_function sigs (fun_of f) ≡ true → IsMain sigs f
-main_of_fits sigs f h =
-    let p = and_parts (same_type f.result Int && same_types (map (λ v. v.ty) f.params) []) (code_fits sigs f.locals Int (statements_in f) && returns_last (statements_in f)) h in
-    let q = and_parts (same_type f.result Int) (same_types (map (λ v. v.ty) f.params) []) p.0 in
-    let r = and_parts (code_fits sigs f.locals Int (statements_in f)) (returns_last (statements_in f)) p.1 in
-    record { params = no_params f.params q.1; result = same_type_is f.result Int q.0; fits = r.0 }
+straight_fits : (sigs : List Signature) (t : CTy) (f : CFun) → is_straight sigs t (fun_of f) ≡ true → IsStraight sigs t f
+straight_fits sigs t f h =
+    let p = and_parts (same_type f.result t && same_types (map (λ v. v.ty) f.params) []) (code_fits sigs f.locals t (statements_in f) && returns_last (statements_in f)) h in
+    let q = and_parts (same_type f.result t) (same_types (map (λ v. v.ty) f.params) []) p.0 in
+    let r = and_parts (code_fits sigs f.locals t (statements_in f)) (returns_last (statements_in f)) p.1 in
+    let params = no_params f.params q.1 in
+    let result = same_type_is f.result t q.0 in
+    record {
+      params = params;
+      result = result;
+      fits = subst (λ (u : CTy). code_fits sigs (variables_of f) u (statements_in f) ≡ true) (sym result)
+          (subst (λ (ps : List CVar). code_fits sigs (ps ++ f.locals) t (statements_in f) ≡ true) (sym params) r.0);
+      shape = straight sigs f.locals t (statements_in f) r.0;
+    }
+
+-- the types of a function's statements
+abbrev StatementsFit : List Signature → CFun → Shape → Type 0
+StatementsFit sigs f shape = code_fits sigs (variables_of f) f.result (statements_of shape) ≡ true
+
+straight_body : (sigs : List Signature) (t : CTy) (f : CFun) → is_straight sigs t (fun_of f) ≡ true → StatementsFit sigs f (shape_in f)
+straight_body sigs t f h = let m = straight_fits sigs t f h in subst (λ (s : Shape). StatementsFit sigs f s) (sym m.shape) m.fits
+
+body_fits : (sigs : List Signature) (f : CFun) (role : Role) → has_shape sigs role (fun_of f) ≡ true → StatementsFit sigs f (shape_in f)
+body_fits sigs f Main_role h = straight_body sigs Int f h
+body_fits sigs f Maker h = straight_body sigs Obj f h
+body_fits sigs f Initializer h = straight_body sigs Obj f h
+body_fits sigs f Function h = loop_fits sigs (variables_of f) f.result (statements_in f) h
+
+shape_fits : (sigs : List Signature) (f : CFun) (role : Role) → has_shape sigs role (fun_of f) ≡ true → ShapeFits (level_by role) (shape_in f)
+shape_fits sigs f Main_role h = subst (λ (s : Shape). ShapeFits Outer s) (sym (straight_fits sigs Int f h).shape) tt
+shape_fits sigs f Maker h = tt
+shape_fits sigs f Initializer h = tt
+shape_fits sigs f Function h = tt
+
+-- nothing calls `main`
+called_inner : (caller role : Role) → may_call caller role ≡ true → level_by role ≡ Inner
+called_inner Main_role Main_role h = absurd (cc)
+called_inner Maker Main_role h = absurd (cc)
+called_inner Initializer Main_role h = absurd (cc)
+called_inner Function Main_role h = absurd (cc)
+called_inner caller Maker h = refl
+called_inner caller Initializer h = refl
+called_inner caller Function h = refl
+
+-- and functions without a loop are called by `main` alone
+called_shape : (caller role : Role) (sigs : List Signature) (f : CFun) → may_call caller role ≡ true → has_shape sigs role (fun_of f) ≡ true → Callable (level_by caller) (shape_in f)
+called_shape Main_role role sigs f h k = tt
+called_shape Maker role sigs f h k = absurd (cc)
+called_shape Initializer Main_role sigs f h k = absurd (cc)
+called_shape Initializer Maker sigs f h k = absurd (cc)
+called_shape Initializer Initializer sigs f h k = absurd (cc)
+called_shape Initializer Function sigs f h k = loop_called sigs (variables_of f) f.result (statements_in f) k
+called_shape Function Main_role sigs f h k = absurd (cc)
+called_shape Function Maker sigs f h k = absurd (cc)
+called_shape Function Initializer sigs f h k = absurd (cc)
+called_shape Function Function sigs f h k = loop_called sigs (variables_of f) f.result (statements_in f) k
 
 -- Programs ----------------------------------------------------------------------------------
 
@@ -286,12 +341,13 @@ unfolding is_checked is_sound
 parts is h =
     let names = defined_names (items_of is) in
     let e = names_defined is in
-    let p = and_parts (are_distinct names && items_fit names [] (items_of is)) (list_any is_main names) h in
+    let p = and_parts (are_distinct names && items_fit names [] (items_of is)) (list_any is_main names && calls_each_once (items_of is)) h in
+    let m = and_parts (list_any is_main names) (calls_each_once (items_of is)) p.1 in
     let q = and_parts (are_distinct names) (items_fit names [] (items_of is)) p.0 in
     record {
       distinct = subst (λ (n : List (List ℕ)). are_distinct n ≡ true) e q.0;
       fit = subst (λ (n : List (List ℕ)). items_fit n [] (items_of is) ≡ true) e q.1;
-      main = subst (λ (n : List (List ℕ)). list_any is_main n ≡ true) e p.1;
+      main = subst (λ (n : List (List ℕ)). list_any is_main n ≡ true) e m.0;
     }
 
 pub has_names : (is : List CItem) → IsChecked (items_of is) → HasNames is
@@ -299,10 +355,8 @@ has_names is h =
     let p = parts is h in
     record { functions = p.distinct; variables = all_distinct (function_names (definitions is)) [] is p.fit }
 
-fits_here : (sigs : List Signature) (f : CFun) (b : Bool) → is_main f.name ≡ b → function_fits sigs (fun_of f) ≡ true → (if b then is_main_function sigs (fun_of f) else is_looped sigs (variables_of f) f.result (statements_in f)) ≡ true
-fits_here sigs f b e h =
-    let p = and_parts (are_distinct (variable_names (variables_of f))) (if is_main f.name then is_main_function sigs (fun_of f) else is_looped sigs (variables_of f) f.result (statements_in f)) h in
-    subst (λ (c : Bool). (if c then is_main_function sigs (fun_of f) else is_looped sigs (variables_of f) f.result (statements_in f)) ≡ true) e p.1
+shape_here : (sigs : List Signature) (f : CFun) → function_fits sigs (fun_of f) ≡ true → has_shape sigs (role_of f.name) (fun_of f) ≡ true
+shape_here sigs f h = (and_parts (are_distinct (variable_names (variables_of f))) (has_shape sigs (role_of f.name) (fun_of f)) h).1
 
 module _ (is : List CItem) (p : Parts is) where
   abbrev all : List Signature
@@ -314,45 +368,36 @@ module _ (is : List CItem) (p : Parts is) where
   abbrev names : List (List ℕ)
   names = function_names fs
 
-  callee_there : (sigs : List Signature) (g : List ℕ) (s : Signature) → ((t : Signature) → Member t sigs → Member t all) → Called names sigs g s → Callee fs (place_in fs g) g s
-  callee_there sigs g s among c =
+  callee_there : (role : Role) (sigs : List Signature) (g : List ℕ) (s : Signature) → ((t : Signature) → Member t sigs → Member t all) → Called role names sigs g s → Callee fs (level_by role) (place_in fs g) g s
+  callee_there role sigs g s among c =
       let sg : s.name ≡ g = same_text s.name g (sym c.named) in
       let r = found_at fs g (any_flipped g names ∙ ap (λ (n : List ℕ). list_any (is_same n) names) (sym sg) ∙ c.is_there) in
       let h = r.fun in
       let hg : h.name ≡ g = same_text h.name g (sym r.named) in
       let k = checked_at names [] is (place_in fs g) h p.fit r.there in
-      let no : is_main h.name ≡ false = ap is_main (hg ∙ sym sg) ∙ c.no_main in
-      let l = loop_of (callable names k.sigs) (variables_of h) h.result (statements_in h) (fits_here (callable names k.sigs) h false no k.fits) in
+      let may : may_call role (role_of h.name) ≡ true = ap (λ (n : List ℕ). may_call role (role_of n)) (hg ∙ sym sg) ∙ c.may in
+      let here = callable (role_of h.name) names k.sigs in
       let same = pair_same all s (signature_in h) (ends_agree names [] is p.fit refl) (among s c.among) (ends_have [] is (place_in fs g) h r.there) (ap (is_same s.name) hg ∙ c.named) in
       record {
         fun = h;
         there = r.there;
         found = r.found;
-        label = l.label;
-        block = l.block;
-        looped = l.is;
+        inner = called_inner role (role_of h.name) may;
+        shape = called_shape role (role_of h.name) here h may (shape_here here h k.fits);
         params = sym same.params;
         result = sym same.result;
       }
 
-  main_fits : (sigs : List Signature) (f : CFun) (m : IsMain sigs f) → code_fits sigs (variables_of f) f.result (statements_in f) ≡ true
-  main_fits sigs f m =
-      subst (λ (t : CTy). code_fits sigs (variables_of f) t (statements_in f) ≡ true) (sym m.result)
-      (subst (λ (ps : List CVar). code_fits sigs (ps ++ f.locals) Int (statements_in f) ≡ true) (sym m.params) m.fits)
-
-  body_fits : (sigs : List Signature) (f : CFun) (b : Bool) → is_main f.name ≡ b → function_fits sigs (fun_of f) ≡ true → code_fits sigs (variables_of f) f.result (statements_of (shape_in f)) ≡ true
-  body_fits sigs f true e h =
-      let fits = main_fits sigs f (main_of_fits sigs f (fits_here sigs f true e h)) in
-      let same = straight sigs (variables_of f) f.result (statements_in f) fits in
-      ap (λ s. code_fits sigs (variables_of f) f.result (statements_of s)) same ∙ fits
-  body_fits sigs f false e h = loop_fits sigs (variables_of f) f.result (statements_in f) (fits_here sigs f false e h)
-
   typed_at : (f : CFun) → CheckedAt names all f → Typed fs (place_in fs) f
-  typed_at f c = record {
-    sigs = callable names c.sigs;
-    callees = λ g s h. callee_there c.sigs g s c.among (called names c.sigs g s h);
-    fits = body_fits (callable names c.sigs) f (is_main f.name) refl c.fits;
-  }
+  typed_at f c =
+      let role = role_of f.name in
+      let here = callable role names c.sigs in
+      record {
+        sigs = here;
+        callees = λ g s h. callee_there role c.sigs g s c.among (called role names c.sigs g s h);
+        shape = shape_fits here f role (shape_here here f c.fits);
+        fits = body_fits here f role (shape_here here f c.fits);
+      }
 
   typed_all : AllTyped fs (place_in fs)
   typed_all k f e = typed_at f (checked_at names [] is k f p.fit e)
@@ -362,12 +407,16 @@ pub record Main (is : List CItem) : Type 0 where
   pub fun : CFun
   pub there : slice_get (definitions is) (place_in (definitions is) (codes "main")) ≡ Some fun
   pub found : fun_named (meant (definitions is)) (codes "main") ≡ Some (fun_of fun)
+  pub outer : level_in fun ≡ Outer
   pub straight : shape_in fun ≡ Straight (statements_in fun)
   pub params : fun.params ≡ []
   pub result : fun.result ≡ Int
 
 pub all_typed : (is : List CItem) → IsChecked (items_of is) → AllTyped (definitions is) (place_in (definitions is))
 all_typed is h = typed_all is (parts is h)
+
+main_role : (name : List ℕ) → is_main name ≡ true → role_of name ≡ Main_role
+main_role name e = ap (λ (b : Bool). if b then Main_role else (if is_maker name then Maker else (if is_initializer name then Initializer else Function))) e
 
 pub main_there : (is : List CItem) → IsChecked (items_of is) → Main is
 main_there is h =
@@ -376,6 +425,8 @@ main_there is h =
     let names = function_names fs in
     let r = found_at fs (codes "main") p.main in
     let k = checked_at names [] is (place_in fs (codes "main")) r.fun p.fit r.there in
-    let sigs = callable names k.sigs in
-    let m = main_of_fits sigs r.fun (fits_here sigs r.fun true r.named k.fits) in
-    record { fun = r.fun; there = r.there; found = r.found; straight = straight sigs r.fun.locals Int (statements_in r.fun) m.fits; params = m.params; result = m.result }
+    let sigs = callable (role_of r.fun.name) names k.sigs in
+    let role = main_role r.fun.name r.named in
+    let shape : has_shape sigs Main_role (fun_of r.fun) ≡ true = subst (λ (q : Role). has_shape sigs q (fun_of r.fun) ≡ true) role (shape_here sigs r.fun k.fits) in
+    let m = straight_fits sigs Int r.fun shape in
+    record { fun = r.fun; there = r.there; found = r.found; outer = ap level_by role; straight = m.shape; params = m.params; result = m.result }

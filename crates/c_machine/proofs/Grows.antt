@@ -5,7 +5,6 @@ use Rattle.std.proofs.lemmas.List.{append-nil}
 use Rattle.scheme_data.specs.Fixnum.{is_fixnum}
 use Rattle.base_io.specs.Observation.{Observation}
 use Rattle.prim_table.specs.declared.primitives.Primitive.TheVariants.{Add, Less, Display, Newline}
-use Rattle.c_tree.specs.declared.tree.CTy.{CTy}
 use Rattle.c_tree.specs.declared.op.Op.{Op}
 use Rattle.c_tree.specs.declared.op.Op.TheVariants.{BoxLong, BoxBool, UnboxLong, Truth, Raise, Args, Status, Primitive as Prim_op}
 use Rattle.c_tree.specs.declared.function.CFun.{CFun}
@@ -17,13 +16,13 @@ use Rattle.c_tree.specs.Code.{Code, done, assign, call, return, test, loop, Fun}
 use Rattle.c_meaning.specs.Word.{Word, Fixnum, False, True, Nil, Unspec, Eof, printed}
 use Rattle.c_meaning.specs.State.{Cell, AWord, ANumber, State, Frame, put, Answer, Has, Leaves, Stops, Ends, Faults, Flow, Next, Goes, Returns, Escapes, Raises, Spends, Fails, with, chosen, after, answer, take_from}
 use Rattle.c_meaning.specs.Operations.{Argument, ACell, AString, operate, fixnum_in}
-use Rattle.c_meaning.specs.Execution.{Names, Lower, is_same, position_of, arguments, cells, again, iterate, looped, entry, names_of, enter, invoke, eval, exec, run, fun_named}
+use Rattle.c_meaning.specs.Execution.{Names, Lower, is_same, position_of, arguments, cells, again, iterate, looped, entry, names_of, enter, enter_any, invoke_by, eval_by, exec_by, exec, run, fun_named}
 use Rattle.c_meaning.specs.Program.{shown}
 use Rattle.c_machine.specs.declared.stepping.Frame.{Frame as Waiter}
 use Rattle.c_machine.specs.declared.program.Dest.{Dest}
 use Rattle.c_machine.specs.declared.program.Dest.TheVariants as dest
 use Rattle.c_machine.specs.Steps.{Config}
-use Rattle.c_machine.proofs.Means.{Shape, Straight, Looped, meant, wrap, flows, flow_of, delivers, names_in, shape_in, Callers, Running, Giving, Means}
+use Rattle.c_machine.proofs.Means.{Shape, Straight, Looped, Level, Inner, Outer, meant, level_in, wrap, enter_at, exec_at, flows, flow_of, delivers, names_in, shape_in, Callers, Running, Giving, Means}
 
 -- the first bytes of these
 abbrev pub Begins : List ℕ → List ℕ → Type 0
@@ -187,49 +186,62 @@ operate_grows (Prim_op Less) args s = less_grows args s
 operate_grows (Prim_op Display) args s = display_grows args s
 operate_grows (Prim_op Newline) args s = newline_grows args s
 
-module _ (p : List Fun) (lower : Lower) (g : LowerGrows lower) where
-  invoke_grows : (c : Callee) (args : List Argument) (s : State) → Begins s.output (out_of (invoke p lower c args s))
-  invoke_grows (callee.Fun h) args s = enter_grows lower g (fun_named p h) (cells args) s
+abbrev CalledGrows : (Option Fun → List Cell → State → Answer) → Type 0
+CalledGrows called = (o : Option Fun) (cs : List Cell) (s : State) → Begins s.output (out_of (called o cs s))
+
+module _ (p : List Fun) (called : Option Fun → List Cell → State → Answer) (lower : Lower) (h : CalledGrows called) (g : LowerGrows lower) where
+  invoke_grows : (c : Callee) (args : List Argument) (s : State) → Begins s.output (out_of (invoke_by p called lower c args s))
+  invoke_grows (callee.Fun f) args s = h (fun_named p f) (cells args) s
   invoke_grows (callee.Op op) args s = operate_grows op args s
 
-  eval_grows : (names : Names) (e : CExpr) (f : Frame) (s : State) → Begins s.output (out_of (eval p lower names e f s))
+  eval_grows : (names : Names) (e : CExpr) (f : Frame) (s : State) → Begins s.output (out_of (eval_by p called lower names e f s))
   eval_grows names (expr.Atom a) f s = begins_self s.output
   eval_grows names (expr.Call c) f s = invoke_grows c.callee (arguments names f c.args) s
 
-  pub exec_grows : (names : Names) (c : Code) (f : Frame) (s : State) → Begins s.output (out (exec p lower names c f s))
+  exec_grows : (names : Names) (c : Code) (f : Frame) (s : State) → Begins s.output (out (exec_by p called lower names c f s))
   exec_grows names done f s = begins_self s.output
   exec_grows names (assign x e rest) f s =
-      with_grows s.output (eval p lower names e f s) f (λ c s1. exec p lower names rest (put (position_of x names) c f) s1) (eval_grows names e f s) (λ c s1. exec_grows names rest (put (position_of x names) c f) s1)
+      with_grows s.output (eval_by p called lower names e f s) f (λ c s1. exec_by p called lower names rest (put (position_of x names) c f) s1) (eval_grows names e f s) (λ c s1. exec_grows names rest (put (position_of x names) c f) s1)
   exec_grows names (call c rest) f s =
-      with_grows s.output (eval p lower names (expr.Call c) f s) f (λ _ s1. exec p lower names rest f s1) (eval_grows names (expr.Call c) f s) (λ _ s1. exec_grows names rest f s1)
-  exec_grows names (return e rest) f s = with_grows s.output (eval p lower names e f s) f (λ c s1. Returns c s1) (eval_grows names e f s) (λ c s1. begins_self s1.output)
+      with_grows s.output (eval_by p called lower names (expr.Call c) f s) f (λ _ s1. exec_by p called lower names rest f s1) (eval_grows names (expr.Call c) f s) (λ _ s1. exec_grows names rest f s1)
+  exec_grows names (return e rest) f s = with_grows s.output (eval_by p called lower names e f s) f (λ c s1. Returns c s1) (eval_grows names e f s) (λ c s1. begins_self s1.output)
   exec_grows names (test e a b rest) f s =
-      with_grows s.output (eval p lower names e f s) f (λ c s1. after (chosen c s1 (exec p lower names a f s1) (exec p lower names b f s1)) (λ f1 s2. exec p lower names rest f1 s2)) (eval_grows names e f s) (λ c s1.
-      after_grows s1.output (chosen c s1 (exec p lower names a f s1) (exec p lower names b f s1)) (λ f1 s2. exec p lower names rest f1 s2)
-      (chosen_grows c s1 (exec p lower names a f s1) (exec p lower names b f s1) (exec_grows names a f s1) (exec_grows names b f s1)) (λ f1 s2. exec_grows names rest f1 s2)
+      with_grows s.output (eval_by p called lower names e f s) f (λ c s1. after (chosen c s1 (exec_by p called lower names a f s1) (exec_by p called lower names b f s1)) (λ f1 s2. exec_by p called lower names rest f1 s2)) (eval_grows names e f s) (λ c s1.
+      after_grows s1.output (chosen c s1 (exec_by p called lower names a f s1) (exec_by p called lower names b f s1)) (λ f1 s2. exec_by p called lower names rest f1 s2)
+      (chosen_grows c s1 (exec_by p called lower names a f s1) (exec_by p called lower names b f s1) (exec_grows names a f s1) (exec_grows names b f s1)) (λ f1 s2. exec_grows names rest f1 s2)
       )
   exec_grows names (loop l body rest) f s =
-      after_grows s.output (iterate lower names l body f s) (λ f1 s1. exec p lower names rest f1 s1) (iterate_grows lower g names l body f s) (λ f1 s1. exec_grows names rest f1 s1)
+      after_grows s.output (iterate lower names l body f s) (λ f1 s1. exec_by p called lower names rest f1 s1) (iterate_grows lower g names l body f s) (λ f1 s1. exec_grows names rest f1 s1)
 
 pub run_grows : (p : List Fun) (b : ℕ) → LowerGrows (run p b)
 run_grows p zero names c f s = begins_self s.output
-run_grows p (suc b) names c f s = exec_grows p (run p b) (run_grows p b) names c f s
+run_grows p (suc b) names c f s = exec_grows p (enter (run p b)) (run p b) (enter_grows (run p b) (run_grows p b)) (run_grows p b) names c f s
+
+any_grows : (p : List Fun) (b : ℕ) (o : Option Fun) (cs : List Cell) (s : State) → Begins s.output (out_of (enter_any p (run p b) o cs s))
+any_grows p b None cs s = begins_self s.output
+any_grows p b (Some f) cs s =
+    let x = exec p (run p b) (names_of f) f.code (entry f cs) s in
+    subst (λ (q : List ℕ). Begins s.output q) (sym (answer_grows x)) (exec_grows p (enter (run p b)) (run p b) (enter_grows (run p b) (run_grows p b)) (run_grows p b) (names_of f) f.code (entry f cs) s)
+
+at_grows : (level : Level) (p : List Fun) (b : ℕ) (o : Option Fun) (cs : List Cell) (s : State) → Begins s.output (out_of (enter_at level p b o cs s))
+at_grows Inner p b o cs s = enter_grows (run p b) (run_grows p b) o cs s
+at_grows Outer p b o cs s = any_grows p b o cs s
 
 wrap_grows : (p : List Fun) (b : ℕ) (names : Names) (shape : Shape) (o : List ℕ) (x : Flow) → Begins o (out x) → Begins o (out (wrap p b names shape x))
 wrap_grows p b names (Straight c) o x h = h
 wrap_grows p b names (Looped l c) o x h = again_grows (run p (suc b)) (run_grows p (suc b)) o names l c x h
 
-flows_grow : (p : List Fun) (b : ℕ) (names : Names) (left : List Code) (fr : Frame) (s : State) → Begins s.output (out (flows p b names left fr s))
-flows_grow p b names [] fr s = begins_self s.output
-flows_grow p b names (c ∷ cs) fr s =
-    after_grows s.output (exec p (run p b) names c fr s) (λ fr1 s1. flows p b names cs fr1 s1) (exec_grows p (run p b) (run_grows p b) names c fr s) (λ fr1 s1. flows_grow p b names cs fr1 s1)
+flows_grow : (level : Level) (p : List Fun) (b : ℕ) (names : Names) (left : List Code) (fr : Frame) (s : State) → Begins s.output (out (flows level p b names left fr s))
+flows_grow level p b names [] fr s = begins_self s.output
+flows_grow level p b names (c ∷ cs) fr s =
+    after_grows s.output (exec_at level p b names c fr s) (λ fr1 s1. flows level p b names cs fr1 s1) (exec_grows p (enter_at level p b) (run p b) (at_grows level p b) (run_grows p b) names c fr s) (λ fr1 s1. flows_grow level p b names cs fr1 s1)
 
-delivers_grows : (p : List Fun) (b : ℕ) (names : Names) (to : Dest) (left other : List Code) (fr : Frame) (c : Cell) (s : State) → Begins s.output (out (delivers p b names to left other fr c s))
-delivers_grows p b names (dest.Local x) left other fr c s = flows_grow p b names left (put x c fr) s
-delivers_grows p b names dest.Nowhere left other fr c s = flows_grow p b names left fr s
-delivers_grows p b names dest.Caller left other fr c s = begins_self s.output
-delivers_grows p b names (dest.Test at) left other fr c s =
-    chosen_grows c s (flows p b names left fr s) (flows p b names other fr s) (flows_grow p b names left fr s) (flows_grow p b names other fr s)
+delivers_grows : (level : Level) (p : List Fun) (b : ℕ) (names : Names) (to : Dest) (left other : List Code) (fr : Frame) (c : Cell) (s : State) → Begins s.output (out (delivers level p b names to left other fr c s))
+delivers_grows level p b names (dest.Local x) left other fr c s = flows_grow level p b names left (put x c fr) s
+delivers_grows level p b names dest.Nowhere left other fr c s = flows_grow level p b names left fr s
+delivers_grows level p b names dest.Caller left other fr c s = begins_self s.output
+delivers_grows level p b names (dest.Test at) left other fr c s =
+    chosen_grows c s (flows level p b names left fr s) (flows level p b names other fr s) (flows_grow level p b names left fr s) (flows_grow level p b names other fr s)
 
 shown_grows : (x : Flow) → (shown x).output ≡ out x
 shown_grows (Next f s) = refl
@@ -240,19 +252,19 @@ shown_grows (Raises c t s) = refl
 shown_grows (Spends s) = refl
 shown_grows (Fails k s) = refl
 
-callers_grow : (fs : List CFun) (place : List ℕ → ℕ) (rs : List Waiter) (below : List ℕ) (turns : ℕ) (t : CTy) (k : Flow → Observation) → Callers fs place rs below turns t k → (x : Flow) → Begins (out x) (k x).output
+callers_grow : (fs : List CFun) (place : List ℕ → ℕ) (rs : List Waiter) (below : List ℕ) (turns : ℕ) (f : CFun) (k : Flow → Observation) → Callers fs place rs below turns f k → (x : Flow) → Begins (out x) (k x).output
 unfolding Callers
-callers_grow fs place [] below turns t k h x =
+callers_grow fs place [] below turns f k h x =
     let e : (k x).output ≡ out x = ap (λ (w : Observation). w.output) (h.2 x) ∙ shown_grows x in
     subst (λ (q : List ℕ). Begins (out x) q) (sym e) (begins_self (out x))
-callers_grow fs place (r ∷ rs) below turns t k h x =
+callers_grow fs place (r ∷ rs) below turns f k h x =
     let w = h.0 in
     let p = meant fs in
     let names = names_in w.fun in
-    let inner = with (answer x) w.frame (delivers p w.bound names r.to w.left w.other w.frame) in
-    let a = with_grows (out x) (answer x) w.frame (delivers p w.bound names r.to w.left w.other w.frame) (subst (λ (q : List ℕ). Begins (out x) q) (sym (answer_grows x)) (begins_self (out x))) (delivers_grows p w.bound names r.to w.left w.other w.frame) in
+    let inner = with (answer x) w.frame (delivers (level_in w.fun) p w.bound names r.to w.left w.other w.frame) in
+    let a = with_grows (out x) (answer x) w.frame (delivers (level_in w.fun) p w.bound names r.to w.left w.other w.frame) (subst (λ (q : List ℕ). Begins (out x) q) (sym (answer_grows x)) (begins_self (out x))) (delivers_grows (level_in w.fun) p w.bound names r.to w.left w.other w.frame) in
     let b = wrap_grows p w.bound names (shape_in w.fun) (out x) inner a in
-    let d = callers_grow fs place rs w.under turns w.fun.result w.outer h.1 (wrap p w.bound names (shape_in w.fun) inner) in
+    let d = callers_grow fs place rs w.under turns w.fun w.outer h.1 (wrap p w.bound names (shape_in w.fun) inner) in
     subst (λ (q : Observation). Begins (out x) q.output) (sym (w.whole x)) (begins_after (out x) (out (wrap p w.bound names (shape_in w.fun) inner)) _ b d)
 
 module _ (fs : List CFun) (place : List ℕ → ℕ) (c : Config) (o : List ℕ) (w : Observation) where
@@ -260,13 +272,13 @@ module _ (fs : List CFun) (place : List ℕ → ℕ) (c : Config) (o : List ℕ)
   running_begins m =
       let p = meant fs in
       let x = flow_of p m.bound m.fun m.left m.frame m.state in
-      let a = wrap_grows p m.bound (names_in m.fun) (shape_in m.fun) m.state.output (flows p m.bound (names_in m.fun) m.left m.frame m.state) (flows_grow p m.bound (names_in m.fun) m.left m.frame m.state) in
-      let d = callers_grow fs place m.frames m.below m.state.turns m.fun.result m.outer m.callers x in
+      let a = wrap_grows p m.bound (names_in m.fun) (shape_in m.fun) m.state.output (flows (level_in m.fun) p m.bound (names_in m.fun) m.left m.frame m.state) (flows_grow (level_in m.fun) p m.bound (names_in m.fun) m.left m.frame m.state) in
+      let d = callers_grow fs place m.frames m.below m.state.turns m.fun m.outer m.callers x in
       subst (λ (q : Observation). Begins o q.output) (sym m.whole) (subst (λ (q : List ℕ). Begins q (m.outer x).output) (sym m.out) (begins_after m.state.output (out x) (m.outer x).output a d))
 
   giving_begins : Giving fs place c o w → Begins o w.output
   giving_begins m =
-      let d = callers_grow fs place m.frames m.below m.state.turns m.fun.result m.outer m.callers (Returns m.cell m.state) in
+      let d = callers_grow fs place m.frames m.below m.state.turns m.fun m.outer m.callers (Returns m.cell m.state) in
       subst (λ (q : Observation). Begins o q.output) (sym m.whole) (subst (λ (q : List ℕ). Begins q (m.outer (Returns m.cell m.state)).output) (sym m.out) d)
 
   -- what was written so far begins what will be written in all

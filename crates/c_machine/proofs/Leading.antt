@@ -11,7 +11,7 @@ use Rattle.c_machine.specs.declared.program.Instr.{Instr}
 use Rattle.c_machine.specs.declared.program.Instr.TheVariants as instr
 use Rattle.c_machine.specs.declared.program.Line.{Line}
 use Rattle.c_machine.specs.Decoded.{line, lines, first_of, last_of, code_of, call_of, expr_instr}
-use Rattle.c_machine.proofs.Means.{Straight, Looped, shape_of, last_in, Leads, LeadsAll}
+use Rattle.c_machine.proofs.Means.{Shape, Straight, Looped, shape_of, statements_of, last_in, first_left, Leads, LeadsAll, AllFit}
 
 record Front {A : Type 0} (xs : List A) (k : ℕ) (y : A) (ys : List A) : Type 0 where
   first : slice_get xs k ≡ Some y
@@ -141,6 +141,19 @@ statements_back (loop m c (return e rest)) l body h = absurd (cc)
 statements_back (loop m c (test e a b rest)) l body h = absurd (cc)
 statements_back (loop m c (loop n d rest)) l body h = absurd (cc)
 
+pub straight_back : (c d : Code) → shape_of c ≡ Straight d → d ≡ c
+straight_back done d h = cc
+straight_back (assign x e rest) d h = cc
+straight_back (call c rest) d h = cc
+straight_back (return e rest) d h = cc
+straight_back (test e a b rest) d h = cc
+straight_back (loop m c done) d h = absurd (cc)
+straight_back (loop m c (assign x e rest)) d h = cc
+straight_back (loop m c (call e rest)) d h = cc
+straight_back (loop m c (return e rest)) d h = cc
+straight_back (loop m c (test e a b rest)) d h = cc
+straight_back (loop m c (loop n e rest)) d h = cc
+
 -- checked statements are no loop
 pub straight : (sigs : List Signature) (vars : List CVar) (t : CTy) (c : Code) → code_fits sigs vars t c ≡ true → shape_of c ≡ Straight c
 straight sigs vars t done h = refl
@@ -182,3 +195,14 @@ block_leads names funs l body c e =
     let end = suc (size (loop l body done)) in
     let lead : LeadsIn names funs (loop l body done) (body ∷ []) 2 = last_leads names funs (code_of names funs (loop l body done)) body 2 end end instr.Turn refl (omega arith) in
     subst (λ (d : Code). LeadsIn names funs d (body ∷ []) 2) (sym e) lead
+
+-- where a function begins
+pub first_leads : (names funs : Names) (sigs : List Signature) (vars : List CVar) (t : CTy) (c : Code) (shape : Shape) → shape_of c ≡ shape → code_fits sigs vars t (statements_of shape) ≡ true → LeadsIn names funs c (first_left shape) 1
+first_leads names funs sigs vars t c (Straight d) e h =
+    let same = straight_back c d e in
+    subst (λ (x : Code). LeadsIn names funs c (x ∷ []) 1) (sym same) (main_leads names funs sigs vars t c (ap (code_fits sigs vars t) (sym same) ∙ h))
+first_leads names funs sigs vars t c (Looped l body) e h = turn_leads names funs l body c (statements_back c l body e)
+
+pub first_fits : (sigs : List Signature) (vars : List CVar) (t : CTy) (shape : Shape) → code_fits sigs vars t (statements_of shape) ≡ true → AllFit sigs vars t (first_left shape)
+first_fits sigs vars t (Straight c) h = (h, tt)
+first_fits sigs vars t (Looped l c) h = tt

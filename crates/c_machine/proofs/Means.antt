@@ -5,14 +5,15 @@ use Rattle.base_io.specs.declared.end.FaultKind.TheVariants.{Tag}
 use Rattle.base_io.specs.Observation.{Observation}
 use Rattle.c_tree.specs.declared.tree.CTy.{CTy}
 use Rattle.c_tree.specs.declared.tree.CTy.TheVariants.{Int}
+use Rattle.c_tree.specs.declared.tree.CExpr.{CExpr}
 use Rattle.c_tree.specs.declared.tree.CVar.{CVar}
 use Rattle.c_tree.specs.declared.function.CFun.{CFun}
 use Rattle.c_tree.specs.Code.{Code, done, assign, call, return, test, loop, Fun}
 use Rattle.c_tree.specs.Functions.{fun_of}
-use Rattle.c_meaning.specs.State.{Cell, State, Frame, put, Flow, Next, Returns, with, after, chosen, answer}
-use Rattle.c_meaning.specs.Execution.{Names, position_of, again, exec, run, fun_named}
+use Rattle.c_meaning.specs.State.{Cell, State, Frame, put, Answer, Flow, Next, Returns, with, after, chosen, answer}
+use Rattle.c_meaning.specs.Execution.{Names, position_of, again, enter, enter_any, eval_by, exec_by, run, fun_named}
 use Rattle.c_meaning.specs.Program.{shown}
-use Rattle.c_meaning.specs.Checked.{Signature, signature_named, code_fits}
+use Rattle.c_meaning.specs.Checked.{Role, Main, Maker, Initializer, Function as Module_function, role_of, Signature, signature_named, code_fits}
 use Rattle.c_machine.specs.declared.program.Dest.{Dest}
 use Rattle.c_machine.specs.declared.program.Dest.TheVariants as dest
 use Rattle.c_machine.specs.declared.program.Instr.{Instr}
@@ -59,24 +60,55 @@ shape_in f = shape_of (statements_in f)
 abbrev pub names_in : CFun → Names
 names_in f = variable_names (variables_of f)
 
--- a signature is that of a function that is there, and whose statements are a loop
-pub record Callee (fs : List CFun) (at : ℕ) (g : List ℕ) (s : Signature) : Type 0 where
+-- what a function has left where it begins: a loop first has its turn
+abbrev pub first_left : Shape → List Code
+first_left (Straight c) = c ∷ []
+first_left (Looped l c) = []
+
+-- where a function stands: `main` is outer, and what it calls is inner
+pub data Level : Type 0 where
+  Inner : Level
+  Outer : Level
+
+abbrev pub level_by : Role → Level
+level_by Main = Outer
+level_by Maker = Inner
+level_by Initializer = Inner
+level_by Module_function = Inner
+
+abbrev pub level_in : CFun → Level
+level_in f = level_by (role_of f.name)
+
+-- `main` has no loop
+abbrev pub ShapeFits : Level → Shape → Type 0
+ShapeFits Inner s = Unit {0}
+ShapeFits Outer (Straight c) = Unit {0}
+ShapeFits Outer (Looped l c) = ⊥
+
+-- what is called from the inner level is a loop
+abbrev pub Callable : Level → Shape → Type 0
+Callable Inner (Straight c) = ⊥
+Callable Inner (Looped l c) = Unit {0}
+Callable Outer s = Unit {0}
+
+-- a signature is that of an inner function that is there, and which may be called from a level
+pub record Callee (fs : List CFun) (level : Level) (at : ℕ) (g : List ℕ) (s : Signature) : Type 0 where
   pub fun : CFun
   pub there : slice_get fs at ≡ Some fun
   pub found : fun_named (meant fs) g ≡ Some (fun_of fun)
-  pub label : List ℕ
-  pub block : Code
-  pub looped : statements_in fun ≡ loop label block done
+  pub inner : level_in fun ≡ Inner
+  pub shape : Callable level (shape_in fun)
   pub params : map (λ v. v.ty) fun.params ≡ s.params
   pub result : fun.result ≡ s.result
 
-abbrev pub Callees : List CFun → (List ℕ → ℕ) → List Signature → Type 0
-Callees fs place sigs = (g : List ℕ) (s : Signature) → signature_named sigs g ≡ Some s → Callee fs (place g) g s
+abbrev pub Callees : List CFun → Level → (List ℕ → ℕ) → List Signature → Type 0
+Callees fs level place sigs = (g : List ℕ) (s : Signature) → signature_named sigs g ≡ Some s → Callee fs level (place g) g s
 
 -- a function whose statements have the types that are wanted
 pub record Typed (fs : List CFun) (place : List ℕ → ℕ) (f : CFun) : Type 0 where
   pub sigs : List Signature
-  pub callees : Callees fs place sigs
+  pub callees : Callees fs (level_in f) place sigs
+  pub shape : ShapeFits (level_in f) (shape_in f)
   pub fits : code_fits sigs (variables_of f) f.result (statements_of (shape_in f)) ≡ true
 
 abbrev pub AllTyped : List CFun → (List ℕ → ℕ) → Type 0
@@ -126,21 +158,32 @@ abbrev pub wrap : List Fun → ℕ → Names → Shape → Flow → Flow
 wrap p b names (Straight c) x = x
 wrap p b names (Looped l c) x = again (run p (suc b)) names l c x
 
+-- what functions do that are called from a level
+abbrev pub enter_at : Level → List Fun → ℕ → Option Fun → List Cell → State → Answer
+enter_at Inner p b = enter (run p b)
+enter_at Outer p b = enter_any p (run p b)
+
+abbrev pub exec_at : Level → List Fun → ℕ → Names → Code → Frame → State → Flow
+exec_at level p b names c fr s = exec_by p (enter_at level p b) (run p b) names c fr s
+
+abbrev pub eval_at : Level → List Fun → ℕ → Names → CExpr → Frame → State → Answer
+eval_at level p b names e fr s = eval_by p (enter_at level p b) (run p b) names e fr s
+
 -- these pieces of code, one after the other
-abbrev pub flows : List Fun → ℕ → Names → List Code → Frame → State → Flow
-flows p b names [] fr s = Next fr s
-flows p b names (c ∷ cs) fr s = after (exec p (run p b) names c fr s) (λ fr1 s1. flows p b names cs fr1 s1)
+abbrev pub flows : Level → List Fun → ℕ → Names → List Code → Frame → State → Flow
+flows level p b names [] fr s = Next fr s
+flows level p b names (c ∷ cs) fr s = after (exec_at level p b names c fr s) (λ fr1 s1. flows level p b names cs fr1 s1)
 
 -- these pieces of code, and then what follows
 abbrev pub flow_of : List Fun → ℕ → CFun → List Code → Frame → State → Flow
-flow_of p b f left fr s = wrap p b (names_in f) (shape_in f) (flows p b (names_in f) left fr s)
+flow_of p b f left fr s = wrap p b (names_in f) (shape_in f) (flows (level_in f) p b (names_in f) left fr s)
 
 -- what is done with a value, where one of two is left
-abbrev pub delivers : List Fun → ℕ → Names → Dest → List Code → List Code → Frame → Cell → State → Flow
-delivers p b names (dest.Local x) left other fr c s = flows p b names left (put x c fr) s
-delivers p b names dest.Nowhere left other fr c s = flows p b names left fr s
-delivers p b names dest.Caller left other fr c s = Returns c s
-delivers p b names (dest.Test at) left other fr c s = chosen c s (flows p b names left fr s) (flows p b names other fr s)
+abbrev pub delivers : Level → List Fun → ℕ → Names → Dest → List Code → List Code → Frame → Cell → State → Flow
+delivers level p b names (dest.Local x) left other fr c s = flows level p b names left (put x c fr) s
+delivers level p b names dest.Nowhere left other fr c s = flows level p b names left fr s
+delivers level p b names dest.Caller left other fr c s = Returns c s
+delivers level p b names (dest.Test at) left other fr c s = chosen c s (flows level p b names left fr s) (flows level p b names other fr s)
 
 -- a place that a value of this type may go to
 abbrev pub DestFits : List CVar → CTy → CTy → Dest → Type 0
@@ -159,7 +202,7 @@ module _ (fs : List CFun) (place : List ℕ → ℕ) where
   pub record Stands (k pc : ℕ) (f : CFun) (left : List Code) (fr : Frame) (env : List ℕ) : Type 0 where
     pub there : slice_get fs k ≡ Some f
     pub sigs : List Signature
-    pub callees : Callees fs place sigs
+    pub callees : Callees fs (level_in f) place sigs
     pub fits : AllFit sigs (variables_of f) f.result left
     pub leads : LeadsAll (names_in f) (function_names fs) (code_of (names_in f) (function_names fs) (statements_in f)) (last_in (shape_in f)) left pc
     pub holds : Holds (variables_of f) fr env
@@ -171,8 +214,8 @@ module _ (fs : List CFun) (place : List ℕ → ℕ) where
   Forks dest.Caller k f other fr env = Unit {0}
   Forks (dest.Test at) k f other fr env = Stands k at f other fr env
 
-  -- a function that waits for the value of a call
-  pub record Waits (r : Waiter) (below : List ℕ) (turns : ℕ) (t : CTy) (k : Flow → Observation) : Type 0 where
+  -- a function that waits for the value of a call of another
+  pub record Waits (r : Waiter) (below : List ℕ) (turns : ℕ) (callee : CFun) (k : Flow → Observation) : Type 0 where
     pub bound : ℕ
     pub fun : CFun
     pub left : List Code
@@ -186,13 +229,14 @@ module _ (fs : List CFun) (place : List ℕ → ℕ) where
     pub slots : below ≡ under ++ env
     pub base : r.base ≡ length under
     pub enough : turns ≤ bound
-    pub fits : DestFits (variables_of fun) fun.result t r.to
-    pub whole : (x : Flow) → k x ≡ outer (wrap (meant fs) bound (names_in fun) (shape_in fun) (with (answer x) frame (delivers (meant fs) bound (names_in fun) r.to left other frame)))
+    pub inner : level_in callee ≡ Inner
+    pub fits : DestFits (variables_of fun) fun.result callee.result r.to
+    pub whole : (x : Flow) → k x ≡ outer (wrap (meant fs) bound (names_in fun) (shape_in fun) (with (answer x) frame (delivers (level_in fun) (meant fs) bound (names_in fun) r.to left other frame)))
 
-  -- what the functions that wait make of the end of the innermost
-  unfoldable pub Callers : List Waiter → List ℕ → ℕ → CTy → (Flow → Observation) → Type 0
-  Callers [] below turns t k = (below ≡ []) × (t ≡ Int) × ((x : Flow) → k x ≡ shown x)
-  Callers (r ∷ rs) below turns t k = (w : Waits r below turns t k) × Callers rs w.under turns w.fun.result w.outer
+  -- what the functions that wait make of the end of the one that runs
+  unfoldable pub Callers : List Waiter → List ℕ → ℕ → CFun → (Flow → Observation) → Type 0
+  Callers [] below turns f k = (below ≡ []) × (f.result ≡ Int) × ((x : Flow) → k x ≡ shown x)
+  Callers (r ∷ rs) below turns f k = (w : Waits r below turns f k) × Callers rs w.under turns w.fun w.outer
 
   -- a function runs
   pub record Running (c : Config) (o : List ℕ) (w : Observation) : Type 0 where
@@ -212,7 +256,7 @@ module _ (fs : List CFun) (place : List ℕ → ℕ) where
     pub out : o ≡ state.output
     pub stands : Stands fn pc fun left frame env
     pub enough : state.turns ≤ bound
-    pub callers : Callers frames below state.turns fun.result outer
+    pub callers : Callers frames below state.turns fun outer
     pub whole : w ≡ outer (flow_of (meant fs) bound fun left frame state)
 
   -- a function gives its value
@@ -229,7 +273,7 @@ module _ (fs : List CFun) (place : List ℕ → ℕ) where
     pub out : o ≡ state.output
     pub there : slice_get fs fn ≡ Some fun
     pub fits : Fits fun.result cell
-    pub callers : Callers frames below state.turns fun.result outer
+    pub callers : Callers frames below state.turns fun outer
     pub whole : w ≡ outer (Returns cell state)
 
   -- the rest of the run from this state, with this output so far, is seen like this
@@ -260,17 +304,25 @@ left_at funs k pc = left_in (slice_get funs k) pc
 abbrev pub steps_at : List Function → ℕ → ℕ → ℕ
 steps_at funs k pc = steps_from (line_at funs k pc) (left_at funs k pc)
 
-unfoldable pub steps_in : List Function → List Waiter → ℕ
-steps_in funs [] = 0
-steps_in funs (r ∷ rs) = (2 * left_at funs r.fun (nearest r.to r.next) + 1) + steps_in funs rs
-
 unfoldable pub total : List Function → ℕ
 total [] = 0
 total (f ∷ funs) = length f.code + total funs
 
+-- a step in `main` weighs more than all steps of a function that it calls, since that may take no turn. No other has functions below it
+unfoldable pub weight : List Function → List Waiter → ℕ
+weight funs [] = 2 * total funs + 2
+weight funs (r ∷ rs) = 1
+
+unfoldable pub steps_in : List Function → List Waiter → ℕ
+steps_in funs [] = 0
+steps_in funs (r ∷ rs) = weight funs rs * (2 * left_at funs r.fun (nearest r.to r.next) + 1) + steps_in funs rs
+
+unfoldable pub turn_weight : List Function → ℕ
+turn_weight funs = (2 * total funs + 2) * (2 * total funs + 1)
+
 -- it falls with each step
 unfoldable pub work : List Function → Config → ℕ
-work funs c = c.turns * (2 * total funs + 1) + (steps_at funs c.fun c.pc + steps_in funs c.frames)
+work funs c = c.turns * turn_weight funs + (weight funs c.frames * steps_at funs c.fun c.pc + steps_in funs c.frames)
 
 -- Soundness ---------------------------------------------------------------------------------
 

@@ -1,15 +1,17 @@
 -- Where lines stand, and the work that is left there.
 use Rattle.std.proofs.Common.{◌≡◌, ℕ, zero, suc, ◌+◌, ◌-◌, ◌*◌, ◌<◌, ◌≤◌, List, [], ◌∷◌, length, Option, Some, None, slice_get, ap, ◌∙◌, arith}
 use Rattle.std.specs.Option.{option_map}
+use Rattle.std.proofs.lemmas.Nat.{mul-le}
 use Rattle.std.proofs.lemmas.Option.{slice_get-map}
 use Rattle.c_tree.specs.declared.function.CFun.{CFun}
 use Rattle.c_machine.specs.declared.program.Instr.{Instr}
 use Rattle.c_machine.specs.declared.program.Instr.TheVariants as instr
 use Rattle.c_machine.specs.declared.program.Line.{Line}
 use Rattle.c_machine.specs.declared.program.Function.{Function}
+use Rattle.c_machine.specs.declared.stepping.Frame.{Frame as Waiter}
 use Rattle.c_machine.specs.Steps.{Config, line_in, line_at}
 use Rattle.c_machine.specs.Decoded.{line, code_of, function_of, function_names}
-use Rattle.c_machine.proofs.Means.{decoded, statements_in, names_in, steps_by, steps_from, left_in, left_at, steps_at, steps_in, total, work}
+use Rattle.c_machine.proofs.Means.{decoded, statements_in, names_in, steps_by, steps_from, left_in, left_at, steps_at, weight, steps_in, total, turn_weight, work}
 
 -- Functions ---------------------------------------------------------------------------------
 
@@ -58,9 +60,39 @@ within_total [] k f e = absurd (cc)
 within_total (g ∷ funs) zero f e = let same : g ≡ f = cc in let l : length g.code ≡ length f.code = ap (λ (h : Function). length h.code) same in omega arith
 within_total (g ∷ funs) (suc k) f e = let le = within_total funs k f e in omega arith
 
-pub work_falls : (funs : List Function) (c d : Config) → d.turns ≡ c.turns → steps_at funs d.fun d.pc + steps_in funs d.frames < steps_at funs c.fun c.pc + steps_in funs c.frames → work funs d < work funs c
+-- a step weighs something, and no more than a turn does for each step of a function
+pub some_weight : (funs : List Function) (rs : List Waiter) → 0 < weight funs rs
+unfolding weight
+some_weight funs [] = omega arith
+some_weight funs (r ∷ rs) = omega arith
+
+most_weight : (funs : List Function) (rs : List Waiter) → weight funs rs ≤ 2 * total funs + 2
+unfolding weight
+most_weight funs [] = omega arith
+most_weight funs (r ∷ rs) = omega arith
+
+pub heavier : (w a b x : ℕ) → x < w → a < b → w * a + x < w * b
+heavier w a b x lt le = let m : w * suc a ≤ w * b = mul-le w (suc a) w b (omega arith) le in grind arith
+
+pub weighs_less : (funs : List Function) (rs : List Waiter) (n m : ℕ) → n < m → weight funs rs * n + steps_in funs rs < weight funs rs * m + steps_in funs rs
+weighs_less funs rs n m lt = before (weight funs rs * n) (weight funs rs * m) (steps_in funs rs) (heavier (weight funs rs) n m 0 (some_weight funs rs) lt)
+  where
+    before : (x y r : ℕ) → x + 0 < y → x + r < y + r
+    before x y r lt = omega arith
+
+pub as_heavy : (w a b : ℕ) → a ≤ b → w * a ≤ w * b
+as_heavy w a b le = mul-le w a w b (omega arith) le
+
+pub within_turn : (funs : List Function) (rs : List Waiter) (n : ℕ) → n < 2 * total funs + 1 → weight funs rs * n < turn_weight funs
+unfolding turn_weight
+within_turn funs rs n lt =
+    let m = mul-le (weight funs rs) n (2 * total funs + 2) n (most_weight funs rs) (omega arith) in
+    let k = heavier (2 * total funs + 2) n (2 * total funs + 1) 0 (omega arith) lt in
+    omega (arith, m, k)
+
+pub work_falls : (funs : List Function) (c d : Config) → d.turns ≡ c.turns → weight funs d.frames * steps_at funs d.fun d.pc + steps_in funs d.frames < weight funs c.frames * steps_at funs c.fun c.pc + steps_in funs c.frames → work funs d < work funs c
 unfolding work
-work_falls funs c d e lt = below (d.turns * (2 * total funs + 1)) (c.turns * (2 * total funs + 1)) _ _ (ap (λ t. t * (2 * total funs + 1)) e) lt
+work_falls funs c d e lt = below (d.turns * turn_weight funs) (c.turns * turn_weight funs) _ _ (ap (λ t. t * turn_weight funs) e) lt
   where
     below : (m n x y : ℕ) → m ≡ n → x < y → m + x < n + y
     below m n x y e lt = omega arith

@@ -13,7 +13,7 @@ use Rattle.c_tree.specs.declared.function.CItem.{CItem}
 use Rattle.c_tree.specs.declared.function.CProgram.{CProgram}
 use Rattle.c_tree.specs.Code.{Code, Fun}
 use Rattle.c_tree.specs.Functions.{fun_of, items_of}
-use Rattle.c_meaning.specs.Execution.{entry, exec, run, fun_named}
+use Rattle.c_meaning.specs.Execution.{entry, exec_main, run, fun_named}
 use Rattle.c_meaning.specs.Program.{cm, run_main, start, shown}
 use Rattle.c_meaning.specs.Checked.{code_fits}
 use Rattle.c_machine.specs.Added.{Added, AddedPart}
@@ -25,12 +25,11 @@ use Rattle.c_machine.specs.declared.stepping.Flow.{Flow as How}
 use Rattle.c_machine.specs.declared.stepping.Flow.TheVariants.{Going, Over, WriteFault, Memory}
 use Rattle.c_machine.specs.Steps.{Config, Move, Goes, Ends, Needs, act, line_at, advanced, Does}
 use Rattle.c_machine.specs.Decoded.{line, definitions, function_names, function_of, variables_of, IsDecoded}
-use Rattle.c_machine.proofs.Means.{meant, decoded, Shape, statements_of, statements_in, names_in, wrap, flows, flow_of, Callers, Means, Kept, Sound, work}
+use Rattle.c_machine.proofs.Means.{meant, decoded, Shape, Straight, statements_of, statements_in, names_in, Level, exec_at, flow_of, Callers, Means, Kept, Sound, work}
 use Rattle.c_machine.proofs.Places.{function_there}
-use Rattle.c_machine.proofs.Flows.{after_next}
 use Rattle.c_machine.proofs.Leading.{main_leads}
 use Rattle.c_machine.proofs.Filled.{Filled, entry_holds}
-use Rattle.c_machine.proofs.Sound.{place_in, means_sound}
+use Rattle.c_machine.proofs.Sound.{place_in, begins_with, means_sound}
 use Rattle.c_machine.proofs.Grows.{means_begins}
 use Rattle.c_machine.proofs.Checking.{functions_meant, all_typed, main_there}
 use Rattle.c_machine.proofs.Sinks.{added_twice, added_none}
@@ -61,10 +60,10 @@ begins items functions main f input args turns d there =
     let block : List Code = code ∷ [] in
     let fr = entry (fun_of m.fun) [] in
     let s = start input turns in
-    let whole : cm (items_of items) input args turns ≡ shown (exec p (run p turns) (names_in m.fun) code fr s) =
+    let whole : cm (items_of items) input args turns ≡ shown (exec_main p (run p turns) (names_in m.fun) code fr s) =
     ap (λ (q : List Fun). run_main q (fun_named q (codes "main")) input turns) ps ∙ ap (λ (o : Option Fun). run_main p o input turns) m.found in
-    let flow : exec p (run p turns) (names_in m.fun) code fr s ≡ flow_of p turns m.fun block fr s =
-    sym (after_next (exec p (run p turns) (names_in m.fun) code fr s)) ∙ ap (λ (x : Shape). wrap p turns (names_in m.fun) x (flows p turns (names_in m.fun) block fr s)) (sym m.straight) in
+    let flow : exec_main p (run p turns) (names_in m.fun) code fr s ≡ flow_of p turns m.fun block fr s =
+    ap (λ (l : Level). exec_at l p turns (names_in m.fun) code fr s) (sym m.outer) ∙ begins_with fs turns m.fun fr s (Straight code) m.straight in
     let fits : code_fits t.sigs (variables_of m.fun) m.fun.result code ≡ true = ap (λ (x : Shape). code_fits t.sigs (variables_of m.fun) m.fun.result (statements_of x)) (sym m.straight) ∙ t.fits in
     inl (record {
       fn = main;

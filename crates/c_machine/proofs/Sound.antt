@@ -23,7 +23,7 @@ use Rattle.c_tree.specs.Code.{Code, done, assign, call, return, test, loop, Fun}
 use Rattle.c_tree.specs.Functions.{fun_of}
 use Rattle.c_meaning.specs.State.{Cell, AWord, ANumber, State, Frame, put, Answer, Has, Leaves, Stops, Ends as Spent_answer, Faults, Flow, Next, Returns, Raises, Spends, Fails, with, answer, take_from}
 use Rattle.c_meaning.specs.Operations.{print, operate}
-use Rattle.c_meaning.specs.Execution.{position_of, atom, arguments, cells, again, iterate, looped, entry, enter, invoke, eval, exec, run, fun_named}
+use Rattle.c_meaning.specs.Execution.{position_of, atom, arguments, cells, again, iterate, looped, entry, invoke_by, exec, run, fun_named}
 use Rattle.c_meaning.specs.Program.{shown, end_of}
 use Rattle.c_meaning.specs.Checked.{Signature, signature_named, code_fits, AType, arguments_fit, call_fits_signature, call_type, is_the_type, has_type, expr_fits, assigned_fits, variable_named, wants_of, gives_of}
 use Rattle.c_machine.specs.declared.program.Dest.{Dest}
@@ -36,10 +36,10 @@ use Rattle.c_machine.specs.declared.program.Function.{Function}
 use Rattle.c_machine.specs.declared.stepping.Frame.{Frame as Waiter}
 use Rattle.c_machine.specs.Steps.{Config, look, Gave, Gives, Quits, performed, delivered, sent, called, resumed, turned, act, NeedsDest, line_at}
 use Rattle.c_machine.specs.Decoded.{line, operand_of, operand_in, action_of, call_of, expr_instr, variables_of, function_of, function_names}
-use Rattle.c_machine.proofs.Means.{meant, decoded, Shape, Straight, Looped, shape_of, statements_of, last_in, statements_in, shape_in, Callee, Callees, names_in, AllTyped, nearest, Stepping, Leads, LeadsAll, AllFit, wrap, flows, flow_of, delivers, DestFits, config, Stands, Forks, Callers, Running, Giving, Means, left_at, steps_at, steps_in, total, work, Kept, Sound}
-use Rattle.c_machine.proofs.Leading.{statements_back, turn_leads, block_leads}
+use Rattle.c_machine.proofs.Means.{meant, decoded, Shape, Straight, Looped, shape_of, statements_of, last_in, first_left, statements_in, shape_in, Level, Inner, Outer, level_in, ShapeFits, Callable, Callee, Callees, names_in, AllTyped, nearest, Stepping, Leads, LeadsAll, AllFit, wrap, enter_at, eval_at, exec_at, flows, flow_of, delivers, DestFits, config, Stands, Forks, Callers, Running, Giving, Means, left_at, steps_at, weight, steps_in, total, turn_weight, work, Kept, Sound}
+use Rattle.c_machine.proofs.Leading.{statements_back, straight_back, turn_leads, block_leads, first_leads, first_fits}
 use Rattle.c_machine.proofs.Flows.{IsStop, stop_with, stop_wrap, wrap_returns, after_next, assign_flow, call_flow, return_flow, test_flow}
-use Rattle.c_machine.proofs.Places.{lines_in, function_there, line_there, left_there, left_less, give_there, steps_le, steps_here, within_total, work_falls}
+use Rattle.c_machine.proofs.Places.{lines_in, function_there, line_there, left_there, left_less, give_there, steps_le, steps_here, within_total, some_weight, heavier, weighs_less, as_heavy, within_turn, work_falls}
 use Rattle.c_machine.proofs.Typing.{slot_of, Fits, Slot, Holds, atom_reading, same_type_is, same_type_self, variable_at, set_env, put_holds}
 use Rattle.c_machine.proofs.Operations.{Matches, Operated, operated, print_nothing}
 use Rattle.c_machine.proofs.Filled.{args_filled, args_read, entry_holds}
@@ -52,32 +52,38 @@ module _ (fs : List CFun) where
   abbrev P : List Fun
   P = meant fs
 
-  callers_stop : (rs : List Waiter) (below : List ℕ) (turns : ℕ) (t : CTy) (k : Flow → Observation) → Callers fs (place_in fs) rs below turns t k → (x : Flow) → IsStop x → k x ≡ shown x
+  callers_stop : (rs : List Waiter) (below : List ℕ) (turns : ℕ) (f : CFun) (k : Flow → Observation) → Callers fs (place_in fs) rs below turns f k → (x : Flow) → IsStop x → k x ≡ shown x
   unfolding Callers
-  callers_stop [] below turns t k h x i = h.2 x
-  callers_stop (r ∷ rs) below turns t k h x i =
+  callers_stop [] below turns f k h x i = h.2 x
+  callers_stop (r ∷ rs) below turns f k h x i =
       let w = h.0 in
       let names = names_in w.fun in
-      w.whole x ∙ ap (λ y. w.outer (wrap P w.bound names (shape_in w.fun) y)) (stop_with x w.frame (delivers P w.bound names r.to w.left w.other w.frame) i) ∙ ap w.outer (stop_wrap P w.bound names (shape_in w.fun) x i) ∙ callers_stop rs w.under turns w.fun.result w.outer h.1 x i
+      w.whole x ∙ ap (λ y. w.outer (wrap P w.bound names (shape_in w.fun) y)) (stop_with x w.frame (delivers (level_in w.fun) P w.bound names r.to w.left w.other w.frame) i) ∙ ap w.outer (stop_wrap P w.bound names (shape_in w.fun) x i) ∙ callers_stop rs w.under turns w.fun w.outer h.1 x i
 
-  callers_next : (rs : List Waiter) (below : List ℕ) (turns : ℕ) (t : CTy) (k : Flow → Observation) → Callers fs (place_in fs) rs below turns t k → (f : Frame) (s : State) → k (Next f s) ≡ record { output = s.output; end = Fault Tag }
+  callers_next : (rs : List Waiter) (below : List ℕ) (turns : ℕ) (f : CFun) (k : Flow → Observation) → Callers fs (place_in fs) rs below turns f k → (f : Frame) (s : State) → k (Next f s) ≡ record { output = s.output; end = Fault Tag }
   unfolding Callers
-  callers_next [] below turns t k h f s = h.2 (Next f s)
-  callers_next (r ∷ rs) below turns t k h f s =
+  callers_next [] below turns g k h f s = h.2 (Next f s)
+  callers_next (r ∷ rs) below turns g k h f s =
       let w = h.0 in
       let names = names_in w.fun in
-      w.whole (Next f s) ∙ ap w.outer (stop_wrap P w.bound names (shape_in w.fun) (Fails Tag s) tt) ∙ callers_stop rs w.under turns w.fun.result w.outer h.1 (Fails Tag s) tt
+      w.whole (Next f s) ∙ ap w.outer (stop_wrap P w.bound names (shape_in w.fun) (Fails Tag s) tt) ∙ callers_stop rs w.under turns w.fun w.outer h.1 (Fails Tag s) tt
 
   -- with fewer turns the bounds are enough too
-  callers_down : (rs : List Waiter) (below : List ℕ) (turns fewer : ℕ) (t : CTy) (k : Flow → Observation) → fewer ≤ turns → Callers fs (place_in fs) rs below turns t k → Callers fs (place_in fs) rs below fewer t k
+  callers_down : (rs : List Waiter) (below : List ℕ) (turns fewer : ℕ) (f : CFun) (k : Flow → Observation) → fewer ≤ turns → Callers fs (place_in fs) rs below turns f k → Callers fs (place_in fs) rs below fewer f k
   unfolding Callers
-  callers_down [] below turns fewer t k le h = h
-  callers_down (r ∷ rs) below turns fewer t k le h =
+  callers_down [] below turns fewer f k le h = h
+  callers_down (r ∷ rs) below turns fewer f k le h =
       let w = h.0 in
       let enough : fewer ≤ w.bound = (let e = w.enough in omega arith) in (
-        record { bound = w.bound; fun = w.fun; left = w.left; other = w.other; frame = w.frame; env = w.env; under = w.under; outer = w.outer; stands = w.stands; forks = w.forks; slots = w.slots; base = w.base; enough = enough; fits = w.fits; whole = w.whole },
-        callers_down rs w.under turns fewer w.fun.result w.outer le h.1,
+        record { bound = w.bound; fun = w.fun; left = w.left; other = w.other; frame = w.frame; env = w.env; under = w.under; outer = w.outer; stands = w.stands; forks = w.forks; slots = w.slots; base = w.base; enough = enough; inner = w.inner; fits = w.fits; whole = w.whole },
+        callers_down rs w.under turns fewer w.fun w.outer le h.1,
       )
+
+  -- nothing waits for the outer level
+  outer_alone : (rs : List Waiter) (below : List ℕ) (turns : ℕ) (f : CFun) (k : Flow → Observation) → Callers fs (place_in fs) rs below turns f k → level_in f ≡ Outer → rs ≡ []
+  unfolding Callers
+  outer_alone [] below turns f k h e = refl
+  outer_alone (r ∷ rs) below turns f k h e = absurd (let both : Inner ≡ Outer = sym h.0.inner ∙ e in cc)
 
   -- Values ----------------------------------------------------------------------------------
 
@@ -90,7 +96,7 @@ module _ (fs : List CFun) where
   deliver_needs k pc f left fr below env t (dest.Test at) st d = tt
 
   -- where a function goes on, with these pieces left
-  goes_on : (k pc : ℕ) (f : CFun) (left : List Code) (fr : Frame) (below env : List ℕ) (frames : List Waiter) (v : ℕ) (s : State) (b : ℕ) (outer : Flow → Observation) (w : Observation) → Stands fs (place_in fs) k pc f left fr env → s.turns ≤ b → Callers fs (place_in fs) frames below s.turns f.result outer → w ≡ outer (flow_of P b f left fr s) → Means fs (place_in fs) (config k pc below env s.turns frames v) s.output w
+  goes_on : (k pc : ℕ) (f : CFun) (left : List Code) (fr : Frame) (below env : List ℕ) (frames : List Waiter) (v : ℕ) (s : State) (b : ℕ) (outer : Flow → Observation) (w : Observation) → Stands fs (place_in fs) k pc f left fr env → s.turns ≤ b → Callers fs (place_in fs) frames below s.turns f outer → w ≡ outer (flow_of P b f left fr s) → Means fs (place_in fs) (config k pc below env s.turns frames v) s.output w
   goes_on k pc f left fr below env frames v s b outer w st le cs e = inl (record {
     fn = k;
     pc = pc;
@@ -112,11 +118,11 @@ module _ (fs : List CFun) where
     whole = e;
   })
 
-  module _ (k pc : ℕ) (f : CFun) (left other : List Code) (fr : Frame) (below env : List ℕ) (frames : List Waiter) (s : State) (b : ℕ) (outer : Flow → Observation) (w : Observation) (st : Stands fs (place_in fs) k pc f left fr env) (le : s.turns ≤ b) (cs : Callers fs (place_in fs) frames below s.turns f.result outer) where
+  module _ (k pc : ℕ) (f : CFun) (left other : List Code) (fr : Frame) (below env : List ℕ) (frames : List Waiter) (s : State) (b : ℕ) (outer : Flow → Observation) (w : Observation) (st : Stands fs (place_in fs) k pc f left fr env) (le : s.turns ≤ b) (cs : Callers fs (place_in fs) frames below s.turns f outer) where
     abbrev Delivers : Dest → Cell → Type 0
-    Delivers to c = w ≡ outer (wrap P b (names_in f) (shape_in f) (delivers P b (names_in f) to left other fr c s))
+    Delivers to c = w ≡ outer (wrap P b (names_in f) (shape_in f) (delivers (level_in f) P b (names_in f) to left other fr c s))
 
-    forks_by : (at v : ℕ) (test : Bool) → Stands fs (place_in fs) k at f other fr env → w ≡ outer (wrap P b (names_in f) (shape_in f) (if test then flows P b (names_in f) other fr s else flows P b (names_in f) left fr s)) → Means fs (place_in fs) (config k (if test then at else pc) below env s.turns frames v) s.output w
+    forks_by : (at v : ℕ) (test : Bool) → Stands fs (place_in fs) k at f other fr env → w ≡ outer (wrap P b (names_in f) (shape_in f) (if test then flows (level_in f) P b (names_in f) other fr s else flows (level_in f) P b (names_in f) left fr s)) → Means fs (place_in fs) (config k (if test then at else pc) below env s.turns frames v) s.output w
     forks_by at v true fk e = goes_on k at f other fr below env frames v s b outer w fk le cs e
     forks_by at v false fk e = goes_on k pc f left fr below env frames v s b outer w st le cs e
 
@@ -198,11 +204,11 @@ module _ (fs : List CFun) where
     behind : Stands fs (place_in fs) k next f left fr env
     forks : Forks fs (place_in fs) to k f other fr env
     enough : s.turns ≤ b
-    callers : Callers fs (place_in fs) frames below s.turns f.result outer
+    callers : Callers fs (place_in fs) frames below s.turns f outer
 
   -- the work that is left before an instruction that is no turn, and ahead of it
-  steps_fall : (k pc near : ℕ) (f : CFun) (n m r : ℕ) → slice_get fs k ≡ Some f → pc < length (lines_in fs f) → pc < near → n ≤ 2 * left_at (decoded fs) k near + 1 → m ≡ 2 * left_at (decoded fs) k pc → n + r < m + r
-  steps_fall k pc near f n m r there lt ahead le e =
+  steps_fall : (k pc near : ℕ) (f : CFun) (n m : ℕ) → slice_get fs k ≡ Some f → pc < length (lines_in fs f) → pc < near → n ≤ 2 * left_at (decoded fs) k near + 1 → m ≡ 2 * left_at (decoded fs) k pc → n < m
+  steps_fall k pc near f n m there lt ahead le e =
       let a = left_there fs k pc f there in
       let b = left_there fs k near f there in
       omega (arith, a, b, lt, ahead, le, e)
@@ -213,18 +219,21 @@ module _ (fs : List CFun) where
 
     -- an answer is delivered
     abbrev Is : Answer → Type 0
-    Is a = w ≡ outer (wrap P b (names_in f) (shape_in f) (with a fr (delivers P b (names_in f) to left other fr)))
+    Is a = w ≡ outer (wrap P b (names_in f) (shape_in f) (with a fr (delivers (level_in f) P b (names_in f) to left other fr)))
 
     does_kept : (act : Action) → At (instr.Does to act) → (g : Gave) (a : Answer) → Matches t s g a → Is a → Kept fs (place_in fs) (config k pc below env s.turns frames old) s.output w (sent to g (config k next below env s.turns frames old))
     does_kept act h (Gives v bytes) (Has c s1) m e =
         let c0 = config k pc below env s.turns frames old in
         let c1 = config k next below env s.turns frames old in
-        let e1 : w ≡ outer (wrap P b (names_in f) (shape_in f) (delivers P b (names_in f) to left other fr c (print bytes s))) = e ∙ ap (λ (x : State). outer (wrap P b (names_in f) (shape_in f) (delivers P b (names_in f) to left other fr c x))) m.1 in
+        let e1 : w ≡ outer (wrap P b (names_in f) (shape_in f) (delivers (level_in f) P b (names_in f) to left other fr c (print bytes s))) = e ∙ ap (λ (x : State). outer (wrap P b (names_in f) (shape_in f) (delivers (level_in f) P b (names_in f) to left other fr c x))) m.1 in
         let means = deliver_means k next f left other fr below env frames (print bytes s) b outer w h.behind h.enough h.callers t to c v old h.forks d m.0 e1 in
         let le = deliver_steps k f to v c1 refl h.there in
         let now = steps_here (decoded fs) k pc (Some (line (instr.Does to act) next)) h.found in
-        let lt = steps_fall k pc (nearest to next) f (steps_at (decoded fs) (delivered to v c1).fun (delivered to v c1).pc) (steps_at (decoded fs) k pc) (steps_in (decoded fs) frames) h.there h.within h.ahead le now in
-        (means, work_falls (decoded fs) c0 (delivered to v c1) (deliver_turns to v c1) (subst (λ (rs : List Waiter). steps_at (decoded fs) (delivered to v c1).fun (delivered to v c1).pc + steps_in (decoded fs) rs < steps_at (decoded fs) k pc + steps_in (decoded fs) frames) (sym (deliver_frames to v c1)) lt))
+        let funs = decoded fs in
+        let d = delivered to v c1 in
+        let lt = steps_fall k pc (nearest to next) f (steps_at funs d.fun d.pc) (steps_at funs k pc) h.there h.within h.ahead le now in
+        let less = weighs_less funs frames (steps_at funs d.fun d.pc) (steps_at funs k pc) lt in
+        (means, work_falls funs c0 d (deliver_turns to v c1) (subst (λ (rs : List Waiter). weight funs rs * steps_at funs d.fun d.pc + steps_in funs rs < weight funs frames * steps_at funs k pc + steps_in funs frames) (sym (deliver_frames to v c1)) less))
     does_kept act h (Gives v bytes) (Leaves x y s1) m e = absurd m
     does_kept act h (Gives v bytes) (Stops code text s1) m e = absurd m
     does_kept act h (Gives v bytes) (Spent_answer s1) m e = absurd m
@@ -232,7 +241,7 @@ module _ (fs : List CFun) where
     does_kept act h (Quits x) (Has c s1) m e = absurd m
     does_kept act h (Quits x) (Leaves y z s1) m e = absurd m
     does_kept act h (Quits x) (Stops code text s1) m e =
-        e ∙ ap outer (stop_wrap P b (names_in f) (shape_in f) (Raises code text s1) tt) ∙ callers_stop frames below s.turns f.result outer h.callers (Raises code text s1) tt
+        e ∙ ap outer (stop_wrap P b (names_in f) (shape_in f) (Raises code text s1) tt) ∙ callers_stop frames below s.turns f outer h.callers (Raises code text s1) tt
         ∙ ap (λ (y : State). record { output = y.output; end = Raised code text }) m.1 ∙ ap (λ (y : End). record { output = s.output; end = y }) (sym m.0)
     does_kept act h (Quits x) (Spent_answer s1) m e = absurd m
     does_kept act h (Quits x) (Faults y s1) m e = absurd m
@@ -251,6 +260,21 @@ module _ (fs : List CFun) where
   loop_begins b g l block fr s e =
       subst (λ (c : Code). looped (run P b) (names_in g) c fr s ≡ wrap P b (names_in g) (shape_of c) (Next fr s)) (sym e) (sym (after_next (iterate (run P b) (names_in g) l block fr s)))
 
+  -- a function's statements are what it has left where it begins
+  pub begins_with : (b : ℕ) (g : CFun) (fr : Frame) (s : State) (shape : Shape) → shape_in g ≡ shape → exec_at (level_in g) P b (names_in g) (statements_in g) fr s ≡ flow_of P b g (first_left shape) fr s
+  begins_with b g fr s (Straight c) e =
+      let flow : exec_at (level_in g) P b (names_in g) c fr s ≡ flows (level_in g) P b (names_in g) (c ∷ []) fr s = sym (after_next (exec_at (level_in g) P b (names_in g) c fr s)) in
+      ap (λ (d : Code). exec_at (level_in g) P b (names_in g) d fr s) (sym (straight_back (statements_in g) c e)) ∙ flow
+      ∙ ap (λ (x : Shape). wrap P b (names_in g) x (flows (level_in g) P b (names_in g) (c ∷ []) fr s)) (sym e)
+  begins_with b g fr s (Looped l c) e =
+      ap (λ (d : Code). exec_at (level_in g) P b (names_in g) d fr s) (statements_back (statements_in g) l c e) ∙ ap (λ (x : Shape). wrap P b (names_in g) x (Next fr s)) (sym e)
+
+  call_begins : (b : ℕ) (g : CFun) (cs : List Cell) (s : State) (level : Level) (shape : Shape) → level_in g ≡ Inner → shape_in g ≡ shape → Callable level shape → enter_at level P b (Some (fun_of g)) cs s ≡ answer (flow_of P b g (first_left shape) (entry (fun_of g) cs) s)
+  call_begins b g cs s Outer shape inner e h =
+      ap (λ (l : Level). answer (exec_at l P b (names_in g) (statements_in g) (entry (fun_of g) cs) s)) (sym inner) ∙ ap answer (begins_with b g (entry (fun_of g) cs) s shape e)
+  call_begins b g cs s Inner (Straight c) inner e h = absurd h
+  call_begins b g cs s Inner (Looped l c) inner e h = ap answer (loop_begins b g l c (entry (fun_of g) cs) s (statements_back (statements_in g) l c e))
+
   turn_there : (k : ℕ) (g : CFun) (l : List ℕ) (block : Code) → slice_get fs k ≡ Some g → statements_in g ≡ loop l block done → steps_at (decoded fs) k 1 ≡ 0
   unfolding LeadsAll
   turn_there k g l block there e =
@@ -264,21 +288,39 @@ module _ (fs : List CFun) where
 
     -- what becomes of the end of the callee
     abbrev after_call : Flow → Observation
-    after_call x = outer (wrap P b (names_in f) (shape_in f) (with (answer x) fr (delivers P b (names_in f) to left other fr)))
+    after_call x = outer (wrap P b (names_in f) (shape_in f) (with (answer x) fr (delivers (level_in f) P b (names_in f) to left other fr)))
 
-    call_falls : (g : ℕ) (args : List CArg) (callee : CFun) (l : List ℕ) (block : Code) (here : List ℕ) → Here k pc next f left other fr below env frames s b outer to (instr.Call to g (map (operand_in (names_in f)) args)) → slice_get fs g ≡ Some callee → statements_in callee ≡ loop l block done → work (decoded fs) (config g 1 (below ++ env) here s.turns (FrameHere ∷ frames) old) < work (decoded fs) (config k pc below env s.turns frames old)
-    unfolding steps_in
-    call_falls g args callee l block here h there loops =
+    -- before it takes a turn, a callee does fewer steps than one step of its caller weighs
+    callee_light : (g : ℕ) (callee : CFun) (level : Level) (shape : Shape) → slice_get fs g ≡ Some callee → level_in f ≡ level → shape_in callee ≡ shape → Callable level shape → Callers fs (place_in fs) frames below s.turns f outer → steps_at (decoded fs) g 1 < weight (decoded fs) frames
+    unfolding weight
+    callee_light g callee Outer shape there el es h cs =
         let funs = decoded fs in
-        let none = turn_there g callee l block there loops in
+        let le = steps_le (line_at funs g 1) (left_at funs g 1) in
+        let left = left_there fs g 1 callee there in
+        let all = within_total funs g (function_of (function_names fs) callee) (function_there fs g callee there) in
+        let lt : steps_at funs g 1 < 2 * total funs + 2 = omega (arith, le, left, all) in
+        subst (λ (rs : List Waiter). steps_at funs g 1 < weight funs rs) (sym (outer_alone frames below s.turns f outer cs el)) lt
+    callee_light g callee Inner (Straight c) there el es h cs = absurd h
+    callee_light g callee Inner (Looped l c) there el es h cs =
+        let none = turn_there g callee l c there (statements_back (statements_in callee) l c es) in
+        omega (arith, none, some_weight (decoded fs) frames)
+
+    call_less : (a b c d : ℕ) → b + a < c → 1 * a + (b + d) < c + d
+    call_less a b c d lt = omega arith
+
+    call_falls : (g : ℕ) (args : List CArg) (callee : CFun) (here : List ℕ) → Here k pc next f left other fr below env frames s b outer to (instr.Call to g (map (operand_in (names_in f)) args)) → slice_get fs g ≡ Some callee → Callable (level_in f) (shape_in callee) → work (decoded fs) (config g 1 (below ++ env) here s.turns (FrameHere ∷ frames) old) < work (decoded fs) (config k pc below env s.turns frames old)
+    unfolding weight steps_in
+    call_falls g args callee here h there fits =
+        let funs = decoded fs in
+        let light = callee_light g callee (level_in f) (shape_in callee) there refl refl fits h.callers in
         let now = steps_here funs k pc (Some (line (instr.Call to g (map (operand_in (names_in f)) args)) next)) h.found in
-        let weight = 2 * left_at funs k (nearest to next) + 1 in
-        let one : steps_at funs g 1 + weight ≤ weight = omega (arith, none) in
-        let lt = steps_fall k pc (nearest to next) f (steps_at funs g 1 + weight) (steps_at funs k pc) (steps_in funs frames) h.there h.within h.ahead one now in
-        let less : steps_at funs g 1 + (weight + steps_in funs frames) < steps_at funs k pc + steps_in funs frames = omega (arith, lt) in
+        let ahead = 2 * left_at funs k (nearest to next) + 1 in
+        let fall = steps_fall k pc (nearest to next) f ahead (steps_at funs k pc) h.there h.within h.ahead (omega arith) now in
+        let lt = heavier (weight funs frames) ahead (steps_at funs k pc) (steps_at funs g 1) light fall in
+        let less = call_less (steps_at funs g 1) (weight funs frames * ahead) (weight funs frames * steps_at funs k pc) (steps_in funs frames) lt in
         work_falls funs (config k pc below env s.turns frames old) (config g 1 (below ++ env) here s.turns (FrameHere ∷ frames) old) refl less
 
-    call_sound : (g : List ℕ) (args : List CArg) (sig : Signature) → Here k pc next f left other fr below env frames s b outer to (instr.Call to (place_in fs g) (map (operand_in (names_in f)) args)) → Callee fs (place_in fs g) g sig → arguments_fit (variables_of f) (map AType sig.params) args ≡ true → DestFits (variables_of f) f.result sig.result to → w ≡ outer (wrap P b (names_in f) (shape_in f) (with (enter (run P b) (fun_named P g) (cells (arguments (names_in f) fr args)) s) fr (delivers P b (names_in f) to left other fr))) → Sound fs (place_in fs) (config k pc below env s.turns frames old) s.output w (Some (line (instr.Call to (place_in fs g) (map (operand_in (names_in f)) args)) next))
+    call_sound : (g : List ℕ) (args : List CArg) (sig : Signature) → Here k pc next f left other fr below env frames s b outer to (instr.Call to (place_in fs g) (map (operand_in (names_in f)) args)) → Callee fs (level_in f) (place_in fs g) g sig → arguments_fit (variables_of f) (map AType sig.params) args ≡ true → DestFits (variables_of f) f.result sig.result to → w ≡ outer (wrap P b (names_in f) (shape_in f) (with (enter_at (level_in f) P b (fun_named P g) (cells (arguments (names_in f) fr args)) s) fr (delivers (level_in f) P b (names_in f) to left other fr))) → Sound fs (place_in fs) (config k pc below env s.turns frames old) s.output w (Some (line (instr.Call to (place_in fs g) (map (operand_in (names_in f)) args)) next))
     unfolding Callers
     call_sound g args sig h d fit df e =
         let callee = d.fun in
@@ -297,22 +339,23 @@ module _ (fs : List CFun) where
         let t = typed at callee d.there in
         let c0 = config k pc below env s.turns frames old in
         let c1 = config at 1 (below ++ env) here s.turns (FrameHere ∷ frames) old in
-        let begun : enter (run P b) (fun_named P g) cs s ≡ answer (flow_of P b callee [] (entry (fun_of callee) cs) s) =
-        ap (λ o. enter (run P b) o cs s) d.found ∙ ap answer (loop_begins b callee d.label d.block (entry (fun_of callee) cs) s d.looped) in
+        let first = first_left (shape_in callee) in
+        let begun : enter_at (level_in f) P b (fun_named P g) cs s ≡ answer (flow_of P b callee first (entry (fun_of callee) cs) s) =
+        ap (λ o. enter_at (level_in f) P b o cs s) d.found ∙ call_begins b callee cs s (level_in f) (shape_in callee) d.inner refl d.shape in
         let fits2 : DestFits vars f.result callee.result to = subst (λ (u : CTy). DestFits vars f.result u to) (sym d.result) df in
-        let stands : Stands fs (place_in fs) at 1 callee [] (entry (fun_of callee) cs) here = record {
+        let stands : Stands fs (place_in fs) at 1 callee first (entry (fun_of callee) cs) here = record {
           there = d.there;
           sigs = t.sigs;
           callees = t.callees;
-          fits = tt;
-          leads = turn_leads (names_in callee) (function_names fs) d.label d.block (statements_in callee) d.looped;
+          fits = first_fits t.sigs (variables_of callee) callee.result (shape_in callee) t.fits;
+          leads = first_leads (names_in callee) (function_names fs) t.sigs (variables_of callee) callee.result (statements_in callee) (shape_in callee) refl t.fits;
           holds = entry_holds callee cs values filled;
         } in
-        let callers : Callers fs (place_in fs) (FrameHere ∷ frames) (below ++ env) s.turns callee.result after_call = (record { bound = b; fun = f; left = left; other = other; frame = fr; env = env; under = below; outer = outer; stands = h.behind; forks = h.forks; slots = refl; base = refl; enough = h.enough; fits = fits2; whole = λ x. refl }, h.callers) in
-        let means = goes_on at 1 callee [] (entry (fun_of callee) cs) (below ++ env) here (FrameHere ∷ frames) old s b after_call w stands h.enough callers (e ∙ ap (λ a. outer (wrap P b (names_in f) (shape_in f) (with a fr (delivers P b (names_in f) to left other fr)))) begun) in (
+        let callers : Callers fs (place_in fs) (FrameHere ∷ frames) (below ++ env) s.turns callee after_call = (record { bound = b; fun = f; left = left; other = other; frame = fr; env = env; under = below; outer = outer; stands = h.behind; forks = h.forks; slots = refl; base = refl; enough = h.enough; inner = d.inner; fits = fits2; whole = λ x. refl }, h.callers) in
+        let means = goes_on at 1 callee first (entry (fun_of callee) cs) (below ++ env) here (FrameHere ∷ frames) old s b after_call w stands h.enough callers (e ∙ ap (λ a. outer (wrap P b (names_in f) (shape_in f) (with a fr (delivers (level_in f) P b (names_in f) to left other fr)))) begun) in (
           (inside, reads),
           subst (λ (m : Option Function). Kept fs (place_in fs) c0 s.output w (called m to at operands (config k next below env s.turns frames old))) (sym there)
-              (subst (λ (o : List ℕ). Means fs (place_in fs) c1 o w) (sym (append-nil s.output)) means, call_falls at args callee d.label d.block here h d.there d.looped),
+              (subst (λ (o : List ℕ). Means fs (place_in fs) c1 o w) (sym (append-nil s.output)) means, call_falls at args callee here h d.there d.shape),
         )
 
   -- Statements ------------------------------------------------------------------------------
@@ -326,25 +369,25 @@ module _ (fs : List CFun) where
     Begun i = Here k pc next f left other fr below env frames s b outer to i
 
     abbrev Gets : Answer → Type 0
-    Gets a = w ≡ outer (wrap P b (names_in f) (shape_in f) (with a fr (delivers P b (names_in f) to left other fr)))
+    Gets a = w ≡ outer (wrap P b (names_in f) (shape_in f) (with a fr (delivers (level_in f) P b (names_in f) to left other fr)))
 
     abbrev Safe : Instr → Type 0
     Safe i = Sound fs (place_in fs) (config k pc below env s.turns frames old) s.output w (Some (line i next))
 
-    fun_sound : (sigs : List Signature) (g : List ℕ) (args : List CArg) (o : Option Signature) → Callees fs (place_in fs) sigs → signature_named sigs g ≡ o → is_the_type t (call_fits_signature (variables_of f) o args) ≡ true → Begun (call_of (names_in f) (function_names fs) to (callee.Fun g) args) → Gets (invoke P (run P b) (callee.Fun g) (arguments (names_in f) fr args) s) → Safe (call_of (names_in f) (function_names fs) to (callee.Fun g) args)
+    fun_sound : (sigs : List Signature) (g : List ℕ) (args : List CArg) (o : Option Signature) → Callees fs (level_in f) (place_in fs) sigs → signature_named sigs g ≡ o → is_the_type t (call_fits_signature (variables_of f) o args) ≡ true → Begun (call_of (names_in f) (function_names fs) to (callee.Fun g) args) → Gets (invoke_by P (enter_at (level_in f) P b) (run P b) (callee.Fun g) (arguments (names_in f) fr args) s) → Safe (call_of (names_in f) (function_names fs) to (callee.Fun g) args)
     fun_sound sigs g args None callees es fit h e = absurd (cc)
     fun_sound sigs g args (Some sig) callees es fit h e =
         let p = typed_if t sig.result (arguments_fit (variables_of f) (map AType sig.params) args) fit in
         call_sound typed k pc next f left other fr below env frames s b outer to old w g args sig h (callees g sig es) p.0 (subst (λ (u : CTy). DestFits (variables_of f) f.result u to) p.1 df) e
 
-    target_sound : (sigs : List Signature) (cal : Target) (args : List CArg) → Callees fs (place_in fs) sigs → is_the_type t (call_type sigs (variables_of f) cal args) ≡ true → Begun (call_of (names_in f) (function_names fs) to cal args) → Gets (invoke P (run P b) cal (arguments (names_in f) fr args) s) → Safe (call_of (names_in f) (function_names fs) to cal args)
+    target_sound : (sigs : List Signature) (cal : Target) (args : List CArg) → Callees fs (level_in f) (place_in fs) sigs → is_the_type t (call_type sigs (variables_of f) cal args) ≡ true → Begun (call_of (names_in f) (function_names fs) to cal args) → Gets (invoke_by P (enter_at (level_in f) P b) (run P b) cal (arguments (names_in f) fr args) s) → Safe (call_of (names_in f) (function_names fs) to cal args)
     target_sound sigs (callee.Fun g) args callees fit h e = fun_sound sigs g args (signature_named sigs g) callees refl fit h e
     target_sound sigs (callee.Op op) args callees fit h e =
         let p = typed_if t (gives_of op) (arguments_fit (variables_of f) (wants_of op) args) fit in
         let o = operated (variables_of f) fr below env s h.behind.holds op args p.0 in
         does_sound k pc next f left other fr below env frames s b outer to (gives_of op) old w (subst (λ (u : CTy). DestFits (variables_of f) f.result u to) p.1 df) (action_of (names_in f) op args) h (operate op (arguments (names_in f) fr args) s) o e
 
-    expr_sound : (sigs : List Signature) (x : CExpr) → Callees fs (place_in fs) sigs → expr_fits sigs (variables_of f) x t ≡ true → Begun (expr_instr (names_in f) (function_names fs) to x) → Gets (eval P (run P b) (names_in f) x fr s) → Safe (expr_instr (names_in f) (function_names fs) to x)
+    expr_sound : (sigs : List Signature) (x : CExpr) → Callees fs (level_in f) (place_in fs) sigs → expr_fits sigs (variables_of f) x t ≡ true → Begun (expr_instr (names_in f) (function_names fs) to x) → Gets (eval_at (level_in f) P b (names_in f) x fr s) → Safe (expr_instr (names_in f) (function_names fs) to x)
     expr_sound sigs (expr.Atom a) callees fit h e =
         let r = atom_reading (variables_of f) fr below env t a fit h.behind.holds in
         does_sound k pc next f left other fr below env frames s b outer to t old w df (action.Copy (operand_of (names_in f) a)) h (Has (atom (names_in f) fr a) s) (record { needs = r.reads; same = (r.slot, print_nothing s) }) e
@@ -355,23 +398,33 @@ module _ (fs : List CFun) where
   turn_less : (t m a r z : ℕ) → a < m → z ≡ 0 → t * m + (a + r) < suc t * m + (z + r)
   turn_less t m a r z lt e = grind arith
 
+  none_weighs : (w n : ℕ) → n ≡ 0 → w * n ≡ 0
+  none_weighs w n e = grind arith
+
   turn_work : (c d : Config) (t k : ℕ) (f : CFun) → slice_get fs k ≡ Some f → 0 < length (lines_in fs f) → c.turns ≡ suc t → d.turns ≡ t → d.fun ≡ k → d.pc ≡ 2 → d.frames ≡ c.frames → steps_at (decoded fs) c.fun c.pc ≡ 0 → work (decoded fs) d < work (decoded fs) c
   unfolding work
   turn_work c d t k f there some et eu ek ep ef none =
       let funs = decoded fs in
-      let m = 2 * total funs + 1 in
+      let m = turn_weight funs in
       let le = steps_le (line_at funs d.fun d.pc) (left_at funs d.fun d.pc) in
       let left : left_at funs d.fun d.pc ≡ length (lines_in fs f) - 2 = ap (λ n. left_at funs n d.pc) ek ∙ ap (left_at funs k) ep ∙ left_there fs k 2 f there in
       let all = within_total funs k (function_of (function_names fs) f) (function_there fs k f there) in
-      let lt : steps_at funs d.fun d.pc < m = omega (arith, le, left, all, some) in
-      let less = turn_less t m (steps_at funs d.fun d.pc) (steps_in funs c.frames) (steps_at funs c.fun c.pc) lt none in
-      let ed : d.turns * m + (steps_at funs d.fun d.pc + steps_in funs d.frames) ≡ t * m + (steps_at funs d.fun d.pc + steps_in funs c.frames) = ap (λ n. n * m + (steps_at funs d.fun d.pc + steps_in funs d.frames)) eu ∙ ap (λ rs. t * m + (steps_at funs d.fun d.pc + steps_in funs rs)) ef in
-      let ec : suc t * m + (steps_at funs c.fun c.pc + steps_in funs c.frames) ≡ c.turns * m + (steps_at funs c.fun c.pc + steps_in funs c.frames) = ap (λ n. n * m + (steps_at funs c.fun c.pc + steps_in funs c.frames)) (sym et) in
-      subst (λ x. x < c.turns * m + (steps_at funs c.fun c.pc + steps_in funs c.frames)) (sym ed) (subst (λ x. t * m + (steps_at funs d.fun d.pc + steps_in funs c.frames) < x) ec less)
+      let lt : steps_at funs d.fun d.pc < 2 * total funs + 1 = omega (arith, le, left, all, some) in
+      let now = weight funs c.frames * steps_at funs d.fun d.pc in
+      let was = weight funs c.frames * steps_at funs c.fun c.pc in
+      let less = turn_less t m now (steps_in funs c.frames) was (within_turn funs c.frames (steps_at funs d.fun d.pc) lt) (none_weighs (weight funs c.frames) (steps_at funs c.fun c.pc) none) in
+      let ed : d.turns * m + (weight funs d.frames * steps_at funs d.fun d.pc + steps_in funs d.frames) ≡ t * m + (now + steps_in funs c.frames) =
+      ap (λ n. n * m + (weight funs d.frames * steps_at funs d.fun d.pc + steps_in funs d.frames)) eu ∙ ap (λ rs. t * m + (weight funs rs * steps_at funs d.fun d.pc + steps_in funs rs)) ef in
+      let ec : suc t * m + (was + steps_in funs c.frames) ≡ c.turns * m + (was + steps_in funs c.frames) = ap (λ n. n * m + (was + steps_in funs c.frames)) (sym et) in
+      subst (λ x. x < c.turns * m + (was + steps_in funs c.frames)) (sym ed) (subst (λ x. t * m + (now + steps_in funs c.frames) < x) ec less)
 
-  module _ (typed : AllTyped fs (place_in fs)) (k pc next : ℕ) (f : CFun) (fr : Frame) (below env : List ℕ) (frames : List Waiter) (s : State) (outer : Flow → Observation) (old : ℕ) (w : Observation) (cs : Callers fs (place_in fs) frames below s.turns f.result outer) (some : 0 < length (lines_in fs f)) where
+  loop_inner : (level : Level) (l : List ℕ) (c : Code) → ShapeFits level (Looped l c) → level ≡ Inner
+  loop_inner Inner l c h = refl
+  loop_inner Outer l c h = absurd h
+
+  module _ (typed : AllTyped fs (place_in fs)) (k pc next : ℕ) (f : CFun) (fr : Frame) (below env : List ℕ) (frames : List Waiter) (s : State) (outer : Flow → Observation) (old : ℕ) (w : Observation) (cs : Callers fs (place_in fs) frames below s.turns f outer) (some : 0 < length (lines_in fs f)) where
     turn_kept : (l : List ℕ) (block : Code) → slice_get fs k ≡ Some f → shape_in f ≡ Looped l block → Holds (variables_of f) fr env → steps_at (decoded fs) k pc ≡ 0 → (n b : ℕ) → s.turns ≡ n → n ≤ b → w ≡ outer (take_from n s (λ s1. again (run P b) (names_in f) l block (run P b (names_in f) block fr s1))) → Kept fs (place_in fs) (config k pc below env s.turns frames old) s.output w (turned n (config k next below env s.turns frames old))
-    turn_kept l block there is hs none zero b en le e = e ∙ callers_stop frames below s.turns f.result outer cs (Spends s) tt
+    turn_kept l block there is hs none zero b en le e = e ∙ callers_stop frames below s.turns f outer cs (Spends s) tt
     turn_kept l block there is hs none (suc t) zero en le e = absurd (omega arith)
     turn_kept l block there is hs none (suc t) (suc b) en le e =
         let s1 : State = record s { turns = t } in
@@ -387,14 +440,15 @@ module _ (fs : List CFun) where
           leads = block_leads (names_in f) (function_names fs) l block (statements_in f) (statements_back (statements_in f) l block is);
           holds = hs;
         } in
-        let flow : exec P (run P b) (names_in f) block fr s1 ≡ flows P b (names_in f) (block ∷ []) fr s1 = sym (after_next (exec P (run P b) (names_in f) block fr s1)) in
-        let whole : w ≡ outer (flow_of P b f (block ∷ []) fr s1) = e ∙ ap (λ x. outer (again (run P (suc b)) (names_in f) l block x)) flow ∙ ap (λ (x : Shape). outer (wrap P b (names_in f) x (flows P b (names_in f) (block ∷ []) fr s1))) (sym is) in
-        let means = goes_on k 2 f (block ∷ []) fr below env frames old s1 b outer w stands (omega arith) (callers_down frames below s.turns t f.result outer fewer cs) whole in
+        let inner : level_in f ≡ Inner = loop_inner (level_in f) l block (subst (λ (x : Shape). ShapeFits (level_in f) x) is ty.shape) in
+        let flow : exec P (run P b) (names_in f) block fr s1 ≡ flows (level_in f) P b (names_in f) (block ∷ []) fr s1 = sym (after_next (exec P (run P b) (names_in f) block fr s1)) ∙ ap (λ (x : Level). flows x P b (names_in f) (block ∷ []) fr s1) (sym inner) in
+        let whole : w ≡ outer (flow_of P b f (block ∷ []) fr s1) = e ∙ ap (λ x. outer (again (run P (suc b)) (names_in f) l block x)) flow ∙ ap (λ (x : Shape). outer (wrap P b (names_in f) x (flows (level_in f) P b (names_in f) (block ∷ []) fr s1))) (sym is) in
+        let means = goes_on k 2 f (block ∷ []) fr below env frames old s1 b outer w stands (omega arith) (callers_down frames below s.turns t f outer fewer cs) whole in
         (subst (λ (o : List ℕ). Means fs (place_in fs) d o w) (sym (append-nil s.output)) means, turn_work (config k pc below env s.turns frames old) d t k f there some en refl refl refl refl none)
 
     -- at the end of the statements
     end_sound : (b : ℕ) → Stands fs (place_in fs) k pc f [] fr env → s.turns ≤ b → line_at (decoded fs) k pc ≡ Some (line (last_in (shape_in f)) next) → (shape : Shape) → shape_in f ≡ shape → w ≡ outer (wrap P b (names_in f) shape (Next fr s)) → Sound fs (place_in fs) (config k pc below env s.turns frames old) s.output w (Some (line (last_in shape) next))
-    end_sound b st le here (Straight c) is e = (tt, e ∙ callers_next frames below s.turns f.result outer cs fr s)
+    end_sound b st le here (Straight c) is e = (tt, e ∙ callers_next frames below s.turns f outer cs fr s)
     end_sound b st le here (Looped l block) is e =
         let none : steps_at (decoded fs) k pc ≡ 0 = steps_here (decoded fs) k pc (Some (line instr.Turn next)) (here ∙ ap (λ (x : Shape). Some (line (last_in x) next)) is) in
         let turn : w ≡ outer (iterate (run P b) (names_in f) l block fr s) = e ∙ ap outer (after_next (iterate (run P b) (names_in f) l block fr s)) in
@@ -405,8 +459,11 @@ module _ (fs : List CFun) where
   main_end (ANumber (pos n)) h = (refl, ltb-true n 256 h)
   main_end (ANumber (negsuc n)) h = absurd (cc)
 
-  giving_sound : (k : ℕ) (f : CFun) (below env : List ℕ) (frames : List Waiter) (s : State) (c : Cell) (outer : Flow → Observation) (w : Observation) → slice_get fs k ≡ Some f → Fits f.result c → Callers fs (place_in fs) frames below s.turns f.result outer → w ≡ outer (Returns c s) → Sound fs (place_in fs) (config k 0 below env s.turns frames (slot_of c)) s.output w (Some (line instr.Give 1))
-  unfolding Callers steps_in
+  give_less : (a b c d : ℕ) → a ≤ b → d ≡ 1 → a + c < 1 * d + (b + c)
+  give_less a b c d le e = omega arith
+
+  giving_sound : (k : ℕ) (f : CFun) (below env : List ℕ) (frames : List Waiter) (s : State) (c : Cell) (outer : Flow → Observation) (w : Observation) → slice_get fs k ≡ Some f → Fits f.result c → Callers fs (place_in fs) frames below s.turns f outer → w ≡ outer (Returns c s) → Sound fs (place_in fs) (config k 0 below env s.turns frames (slot_of c)) s.output w (Some (line instr.Give 1))
+  unfolding Callers weight steps_in
   giving_sound k f below env [] s c outer w there fits cs e =
       let m = main_end c (subst (λ (t : CTy). Fits t c) cs.1 fits) in
       (m.1, e ∙ cs.2 (Returns c s) ∙ ap (λ (x : End). record { output = s.output; end = x }) m.0)
@@ -428,8 +485,10 @@ module _ (fs : List CFun) where
       let d = delivered r.to v caller in
       let le = deliver_steps r.fun wt.fun r.to v caller refl wt.stands.there in
       let one : steps_at funs k 0 ≡ 1 = steps_here funs k 0 (Some (line instr.Give 1)) (give_there fs k f there) in
-      let less : steps_at funs d.fun d.pc + steps_in funs rs < steps_at funs k 0 + ((2 * left_at funs r.fun (nearest r.to r.next) + 1) + steps_in funs rs) = omega (arith, le, one) in
-      let less2 : steps_at funs d.fun d.pc + steps_in funs d.frames < steps_at funs k 0 + ((2 * left_at funs r.fun (nearest r.to r.next) + 1) + steps_in funs rs) = subst (λ (q : List Waiter). steps_at funs d.fun d.pc + steps_in funs q < steps_at funs k 0 + ((2 * left_at funs r.fun (nearest r.to r.next) + 1) + steps_in funs rs)) (sym (deliver_frames r.to v caller)) less in (
+      let ahead = 2 * left_at funs r.fun (nearest r.to r.next) + 1 in
+      let steps = steps_at funs d.fun d.pc in
+      let less = give_less (weight funs rs * steps) (weight funs rs * ahead) (steps_in funs rs) (steps_at funs k 0) (as_heavy (weight funs rs) steps ahead le) one in
+      let less2 = subst (λ (q : List Waiter). weight funs q * steps + steps_in funs q < 1 * steps_at funs k 0 + (weight funs rs * ahead + steps_in funs rs)) (sym (deliver_frames r.to v caller)) less in (
         needs,
         subst (λ (x : Config). Means fs (place_in fs) (delivered r.to v x) (s.output ++ []) w × (work funs (delivered r.to v x) < work funs c0)) (sym back)
             (subst (λ (o : List ℕ). Means fs (place_in fs) d o w) (sym (append-nil s.output)) means, work_falls funs c0 d (deliver_turns r.to v caller) less2),
@@ -437,7 +496,7 @@ module _ (fs : List CFun) where
 
   -- States ----------------------------------------------------------------------------------
 
-  module _ (typed : AllTyped fs (place_in fs)) (k pc : ℕ) (f : CFun) (fr : Frame) (below env : List ℕ) (frames : List Waiter) (s : State) (b : ℕ) (outer : Flow → Observation) (old : ℕ) (w : Observation) (le : s.turns ≤ b) (cs : Callers fs (place_in fs) frames below s.turns f.result outer) where
+  module _ (typed : AllTyped fs (place_in fs)) (k pc : ℕ) (f : CFun) (fr : Frame) (below env : List ℕ) (frames : List Waiter) (s : State) (b : ℕ) (outer : Flow → Observation) (old : ℕ) (w : Observation) (le : s.turns ≤ b) (cs : Callers fs (place_in fs) frames below s.turns f outer) where
     abbrev Runs : List Code → Type 0
     Runs left = Stands fs (place_in fs) k pc f left fr env → w ≡ outer (flow_of P b f left fr s) → Sound fs (place_in fs) (config k pc below env s.turns frames old) s.output w (line_at (decoded fs) k pc)
 
@@ -458,12 +517,12 @@ module _ (fs : List CFun) where
     found_sound : (at : ℕ) (i : Instr) → line_at (decoded fs) k pc ≡ Some (line i at) → Sound fs (place_in fs) (config k pc below env s.turns frames old) s.output w (Some (line i at)) → Sound fs (place_in fs) (config k pc below env s.turns frames old) s.output w (line_at (decoded fs) k pc)
     found_sound at i e h = subst (λ l. Sound fs (place_in fs) (config k pc below env s.turns frames old) s.output w l) (sym e) h
 
-    assign_sound : (at : ℕ) (sigs : List Signature) (x : List ℕ) (e : CExpr) (left : List Code) (o : Option CVar) → Callees fs (place_in fs) sigs → variable_named (variables_of f) x ≡ o → assigned_fits sigs (variables_of f) e o ≡ true → Here k pc at f left [] fr below env frames s b outer (dest.Local (position_of x (names_in f))) (expr_instr (names_in f) (function_names fs) (dest.Local (position_of x (names_in f))) e) → w ≡ outer (wrap P b (names_in f) (shape_in f) (with (eval P (run P b) (names_in f) e fr s) fr (delivers P b (names_in f) (dest.Local (position_of x (names_in f))) left [] fr))) → Sound fs (place_in fs) (config k pc below env s.turns frames old) s.output w (Some (line (expr_instr (names_in f) (function_names fs) (dest.Local (position_of x (names_in f))) e) at))
+    assign_sound : (at : ℕ) (sigs : List Signature) (x : List ℕ) (e : CExpr) (left : List Code) (o : Option CVar) → Callees fs (level_in f) (place_in fs) sigs → variable_named (variables_of f) x ≡ o → assigned_fits sigs (variables_of f) e o ≡ true → Here k pc at f left [] fr below env frames s b outer (dest.Local (position_of x (names_in f))) (expr_instr (names_in f) (function_names fs) (dest.Local (position_of x (names_in f))) e) → w ≡ outer (wrap P b (names_in f) (shape_in f) (with (eval_at (level_in f) P b (names_in f) e fr s) fr (delivers (level_in f) P b (names_in f) (dest.Local (position_of x (names_in f))) left [] fr))) → Sound fs (place_in fs) (config k pc below env s.turns frames old) s.output w (Some (line (expr_instr (names_in f) (function_names fs) (dest.Local (position_of x (names_in f))) e) at))
     assign_sound at sigs x e left None callees es fit h is = absurd (cc)
     assign_sound at sigs x e left (Some v) callees es fit h is =
         expr_sound typed k pc at f left [] fr below env frames s b outer (dest.Local (position_of x (names_in f))) v.ty old w (v, variable_at x (variables_of f) v es, refl) sigs e callees fit h is
 
-    called_sound : (at : ℕ) (sigs : List Signature) (c : CCall) (left : List Code) (o : Option CTy) → Callees fs (place_in fs) sigs → call_type sigs (variables_of f) c.callee c.args ≡ o → has_type o ≡ true → Here k pc at f left [] fr below env frames s b outer dest.Nowhere (call_of (names_in f) (function_names fs) dest.Nowhere c.callee c.args) → w ≡ outer (wrap P b (names_in f) (shape_in f) (with (eval P (run P b) (names_in f) (expr.Call c) fr s) fr (delivers P b (names_in f) dest.Nowhere left [] fr))) → Sound fs (place_in fs) (config k pc below env s.turns frames old) s.output w (Some (line (call_of (names_in f) (function_names fs) dest.Nowhere c.callee c.args) at))
+    called_sound : (at : ℕ) (sigs : List Signature) (c : CCall) (left : List Code) (o : Option CTy) → Callees fs (level_in f) (place_in fs) sigs → call_type sigs (variables_of f) c.callee c.args ≡ o → has_type o ≡ true → Here k pc at f left [] fr below env frames s b outer dest.Nowhere (call_of (names_in f) (function_names fs) dest.Nowhere c.callee c.args) → w ≡ outer (wrap P b (names_in f) (shape_in f) (with (eval_at (level_in f) P b (names_in f) (expr.Call c) fr s) fr (delivers (level_in f) P b (names_in f) dest.Nowhere left [] fr))) → Sound fs (place_in fs) (config k pc below env s.turns frames old) s.output w (Some (line (call_of (names_in f) (function_names fs) dest.Nowhere c.callee c.args) at))
     called_sound at sigs c left None callees es fit h is = absurd (cc)
     called_sound at sigs c left (Some t) callees es fit h is =
         expr_sound typed k pc at f left [] fr below env frames s b outer dest.Nowhere t old w tt sigs (expr.Call c) callees (ap (is_the_type t) es ∙ same_type_self t) h is
@@ -491,21 +550,21 @@ module _ (fs : List CFun) where
         let ahead = stands_at l.0 (rest ∷ cs1) (assign x e rest ∷ cs1) st (p.1, st.fits.1) (st.leads.0, l.2, st.leads.2) in
         let h = here l.0 to (expr_instr (names_in f) (function_names fs) to e) (rest ∷ cs1) [] st.there l.1 ahead tt in
         found_sound l.0 (expr_instr (names_in f) (function_names fs) to e) h.found
-        (assign_sound l.0 st.sigs x e (rest ∷ cs1) (variable_named (variables_of f) x) st.callees refl p.0 h (is ∙ ap wrapped (assign_flow P b (names_in f) cs1 fr s x e rest [])))
+        (assign_sound l.0 st.sigs x e (rest ∷ cs1) (variable_named (variables_of f) x) st.callees refl p.0 h (is ∙ ap wrapped (assign_flow (level_in f) P b (names_in f) cs1 fr s x e rest [])))
     running_sound (call c rest ∷ cs1) st is =
         let p = and_parts (has_type (call_type st.sigs (variables_of f) c.callee c.args)) (code_fits st.sigs (variables_of f) f.result rest) st.fits.0 in
         let l = st.leads.1 in
         let ahead = stands_at l.0 (rest ∷ cs1) (call c rest ∷ cs1) st (p.1, st.fits.1) (st.leads.0, l.2, st.leads.2) in
         let h = here l.0 dest.Nowhere (call_of (names_in f) (function_names fs) dest.Nowhere c.callee c.args) (rest ∷ cs1) [] st.there l.1 ahead tt in
         found_sound l.0 (call_of (names_in f) (function_names fs) dest.Nowhere c.callee c.args) h.found
-        (called_sound l.0 st.sigs c (rest ∷ cs1) (call_type st.sigs (variables_of f) c.callee c.args) st.callees refl p.0 h (is ∙ ap wrapped (call_flow P b (names_in f) cs1 fr s c rest [])))
+        (called_sound l.0 st.sigs c (rest ∷ cs1) (call_type st.sigs (variables_of f) c.callee c.args) st.callees refl p.0 h (is ∙ ap wrapped (call_flow (level_in f) P b (names_in f) cs1 fr s c rest [])))
     running_sound (return e rest ∷ cs1) st is =
         let p = and_parts (expr_fits st.sigs (variables_of f) e f.result) (code_fits st.sigs (variables_of f) f.result rest) st.fits.0 in
         let l = st.leads.1 in
         let ahead = stands_at l.0 (rest ∷ cs1) (return e rest ∷ cs1) st (p.1, st.fits.1) (st.leads.0, l.2, st.leads.2) in
         let h = here l.0 dest.Caller (expr_instr (names_in f) (function_names fs) dest.Caller e) (rest ∷ cs1) [] st.there l.1 ahead tt in
         found_sound l.0 (expr_instr (names_in f) (function_names fs) dest.Caller e) h.found
-        (expr_sound typed k pc l.0 f (rest ∷ cs1) [] fr below env frames s b outer dest.Caller f.result old w refl st.sigs e st.callees p.0 h (is ∙ ap wrapped (return_flow P b (names_in f) cs1 fr s e rest [])))
+        (expr_sound typed k pc l.0 f (rest ∷ cs1) [] fr below env frames s b outer dest.Caller f.result old w refl st.sigs e st.callees p.0 h (is ∙ ap wrapped (return_flow (level_in f) P b (names_in f) cs1 fr s e rest [])))
     running_sound (test e x y rest ∷ cs1) st is =
         let fit : Code → Bool = code_fits st.sigs (variables_of f) f.result in
         let p = and_parts (expr_fits st.sigs (variables_of f) e Int) (fit x && (fit y && fit rest)) st.fits.0 in
@@ -518,7 +577,7 @@ module _ (fs : List CFun) where
         let second = stands_at l.1 (y ∷ rest ∷ cs1) (test e x y rest ∷ cs1) st (r.0, (r.1, st.fits.1)) (l.2, l.5, behind) in
         let h = here l.0 to (expr_instr (names_in f) (function_names fs) to e) (x ∷ rest ∷ cs1) (y ∷ rest ∷ cs1) st.there l.3 first second in
         found_sound l.0 (expr_instr (names_in f) (function_names fs) to e) h.found
-        (expr_sound typed k pc l.0 f (x ∷ rest ∷ cs1) (y ∷ rest ∷ cs1) fr below env frames s b outer to Int old w refl st.sigs e st.callees p.0 h (is ∙ ap wrapped (test_flow P b (names_in f) cs1 fr s e x y rest l.1)))
+        (expr_sound typed k pc l.0 f (x ∷ rest ∷ cs1) (y ∷ rest ∷ cs1) fr below env frames s b outer to Int old w refl st.sigs e st.callees p.0 h (is ∙ ap wrapped (test_flow (level_in f) P b (names_in f) cs1 fr s e x y rest l.1)))
     running_sound (loop l x rest ∷ cs1) st is = absurd (let no = st.fits.0 in cc)
 
   -- a state that means something

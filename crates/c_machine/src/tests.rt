@@ -77,6 +77,13 @@ fn no_argument(alloc: Global, op: Op) -> CCall {
     }
 }
 
+fn function_call(alloc: Global, callee: &[u8]) -> Result<CCall, OutOfMemory> {
+    Ok(CCall {
+        callee: Callee::Fun(Text::from_bytes(alloc, callee)?),
+        args: List::new(alloc),
+    })
+}
+
 fn operation(alloc: Global, op: Op, a: CAtom) -> Result<CCall, OutOfMemory> {
     let mut call = no_argument(alloc, op);
     call.args.push(CArg::Atom(a))?;
@@ -218,6 +225,8 @@ fn laid_out(alloc: Global, pieces: List<Piece>) -> Result<Layout, OutOfMemory> {
     }
 }
 
+const GO: &[u8] = b"f_hello__go";
+
 // `obj f_hello__go(obj x0) { long x1; obj x2; int x3; L0: for (;;) { .. } }`
 fn function(alloc: Global, block: Block) -> Result<CItem, OutOfMemory> {
     let mut params = List::new(alloc);
@@ -232,7 +241,7 @@ fn function(alloc: Global, block: Block) -> Result<CItem, OutOfMemory> {
     let layout = laid_out(alloc, pieces)?;
     Ok(CItem::Defined(CFun {
         result: CTy::Obj,
-        name: Text::from_bytes(alloc, b"f_hello__go")?,
+        name: Text::from_bytes(alloc, GO)?,
         params,
         locals,
         body: layout.body,
@@ -240,19 +249,21 @@ fn function(alloc: Global, block: Block) -> Result<CItem, OutOfMemory> {
     }))
 }
 
-// `int main(void) { obj x0; obj x1; x0 = bgl_args(); x1 = f_hello__go(x0); return bgl_status(x1); }`
-fn main_function(alloc: Global) -> Result<CItem, OutOfMemory> {
+// `f_hello__go(x0)`
+fn call_of_go(alloc: Global) -> Result<CCall, OutOfMemory> {
+    let mut call = function_call(alloc, GO)?;
+    call.args.push(CArg::Atom(name(alloc, b"x0")?))?;
+    Ok(call)
+}
+
+// `int main(void) { obj x0; obj x1; .. x0 = bgl_args(); x1 = f_hello__go(x0); return bgl_status(x1); }`
+fn main_function(alloc: Global, begun: List<Piece>) -> Result<CItem, OutOfMemory> {
     let mut locals = List::new(alloc);
     locals.push(variable(alloc, CTy::Obj, b"x0")?)?;
     locals.push(variable(alloc, CTy::Obj, b"x1")?)?;
-    let mut call = CCall {
-        callee: Callee::Fun(Text::from_bytes(alloc, b"f_hello__go")?),
-        args: List::new(alloc),
-    };
-    call.args.push(CArg::Atom(name(alloc, b"x0")?))?;
-    let mut body = List::new(alloc);
+    let mut body = begun;
     body.push(assign(alloc, b"x0", no_argument(alloc, Op::Args))?)?;
-    body.push(assign(alloc, b"x1", call)?)?;
+    body.push(assign(alloc, b"x1", call_of_go(alloc)?)?)?;
     let status = operation(alloc, Op::Status, name(alloc, b"x1")?)?;
     body.push(returns(status))?;
     let layout = laid_out(alloc, body)?;
@@ -269,7 +280,7 @@ fn main_function(alloc: Global) -> Result<CItem, OutOfMemory> {
 fn machine(alloc: Global, block: Block) -> Result<Machine, OutOfMemory> {
     let mut items = List::new(alloc);
     items.push(function(alloc, block)?)?;
-    items.push(main_function(alloc)?)?;
+    items.push(main_function(alloc, List::new(alloc))?)?;
     machine_of(alloc, items)
 }
 
@@ -356,11 +367,8 @@ const SECOND: &[u8] = b"f_hello__second";
 
 const THIRD: &[u8] = b"f_hello__third";
 
-fn function_call(alloc: Global, callee: &[u8], a: CAtom, b: CAtom) -> Result<CCall, OutOfMemory> {
-    let mut call = CCall {
-        callee: Callee::Fun(Text::from_bytes(alloc, callee)?),
-        args: List::new(alloc),
-    };
+fn call_of_two(alloc: Global, callee: &[u8], a: CAtom, b: CAtom) -> Result<CCall, OutOfMemory> {
+    let mut call = function_call(alloc, callee)?;
     call.args.push(CArg::Atom(a))?;
     call.args.push(CArg::Atom(b))?;
     Ok(call)
@@ -368,7 +376,7 @@ fn function_call(alloc: Global, callee: &[u8], a: CAtom, b: CAtom) -> Result<CCa
 
 // `x2 = callee(x1, x0);`
 fn swapped_call(alloc: Global, callee: &[u8]) -> Result<Piece, OutOfMemory> {
-    let call = function_call(alloc, callee, name(alloc, b"x1")?, name(alloc, b"x0")?)?;
+    let call = call_of_two(alloc, callee, name(alloc, b"x1")?, name(alloc, b"x0")?)?;
     assign(alloc, b"x2", call)
 }
 
@@ -464,7 +472,7 @@ fn push_asking(alloc: Global, n: i64, items: &mut List<CItem>) -> Result<(), Out
     second.push(Piece::Return(CExpr::Atom(CAtom::Int(n))))?;
     items.push(definition(alloc, CTy::Int, SECOND, second)?)?;
     let mut first = loop_begun(alloc)?;
-    let call = function_call(alloc, SECOND, name(alloc, b"x0")?, name(alloc, b"x1")?)?;
+    let call = call_of_two(alloc, SECOND, name(alloc, b"x0")?, name(alloc, b"x1")?)?;
     first.push(Piece::If(CExpr::Call(call)))?;
     first.push(show(alloc, b"x0")?)?;
     first.push(Piece::Else)?;
@@ -479,7 +487,7 @@ fn main_of_calls(alloc: Global) -> Result<CItem, OutOfMemory> {
     let mut locals = List::new(alloc);
     locals.push(variable(alloc, CTy::Obj, b"x0")?)?;
     let mut body = List::new(alloc);
-    let call = function_call(alloc, FIRST, CAtom::True, CAtom::Nil)?;
+    let call = call_of_two(alloc, FIRST, CAtom::True, CAtom::Nil)?;
     body.push(assign(alloc, b"x0", call)?)?;
     let status = operation(alloc, Op::Status, name(alloc, b"x0")?)?;
     body.push(returns(status))?;
@@ -528,6 +536,67 @@ fn calls_print_and_end_as_the_rows_say(rt: HostRuntime) -> Result<(), OutOfMemor
         let end = machine.run(turns, b"", &args, &mut sink);
         assert!(rt; end.is_ok_and(|e| is_wanted(&e, want)), "{calls:?}");
         assert_eq!(rt; sink.bytes(), output, "{calls:?}");
+    }
+    Ok(())
+}
+
+const MAKER: &[u8] = b"c_hello";
+
+const INITIALIZER: &[u8] = b"i_hello";
+
+// `obj callee(void) { obj x0; .. return BGL_NIL; }`
+fn straight(alloc: Global, callee: &[u8], begun: List<Piece>) -> Result<CItem, OutOfMemory> {
+    let mut locals = List::new(alloc);
+    locals.push(variable(alloc, CTy::Obj, b"x0")?)?;
+    let mut body = begun;
+    body.push(Piece::Return(CExpr::Atom(CAtom::Nil)))?;
+    let layout = laid_out(alloc, body)?;
+    Ok(CItem::Defined(CFun {
+        result: CTy::Obj,
+        name: Text::from_bytes(alloc, callee)?,
+        params: List::new(alloc),
+        locals,
+        body: layout.body,
+        stmts: layout.stmts,
+    }))
+}
+
+// A maker that shows `#t`, an initialisation that calls the function, and a `main` that shows what each of them gives.
+fn whole_module(alloc: Global) -> Result<Machine, OutOfMemory> {
+    let mut makes = List::new(alloc);
+    makes.push(Piece::Call(display(alloc, CAtom::True)?))?;
+    let mut initializes = List::new(alloc);
+    let seven = operation(alloc, Op::BoxLong, CAtom::Int(7))?;
+    initializes.push(assign(alloc, b"x0", seven)?)?;
+    initializes.push(Piece::Call(call_of_go(alloc)?))?;
+    let mut begun = List::new(alloc);
+    begun.push(assign(alloc, b"x0", function_call(alloc, MAKER)?)?)?;
+    begun.push(show(alloc, b"x0")?)?;
+    begun.push(assign(alloc, b"x1", function_call(alloc, INITIALIZER)?)?)?;
+    begun.push(show(alloc, b"x1")?)?;
+    let mut items = List::new(alloc);
+    items.push(function(alloc, Block::Sum(40, 2))?)?;
+    items.push(straight(alloc, MAKER, makes)?)?;
+    items.push(straight(alloc, INITIALIZER, initializes)?)?;
+    items.push(main_function(alloc, begun)?)?;
+    machine_of(alloc, items)
+}
+
+#[test]
+fn functions_without_a_loop_take_no_turn(rt: HostRuntime) -> Result<(), OutOfMemory> {
+    let alloc = rt.alloc();
+    let args = TextList::new(alloc);
+    let rows: [(u64, &[u8], Want); 3] = [
+        (2, b"#t()42\n()42\n", Want::Ended(0)),
+        (1, b"#t()42\n()", Want::Spent),
+        (0, b"#t()", Want::Spent),
+    ];
+    for (turns, output, want) in rows {
+        let mut machine = whole_module(alloc)?;
+        let mut sink = MemSink::new(alloc, 100, CallList::new(alloc))?;
+        let end = machine.run(turns, b"", &args, &mut sink);
+        assert!(rt; end.is_ok_and(|e| is_wanted(&e, want)), "{turns}");
+        assert_eq!(rt; sink.bytes(), output, "{turns}");
     }
     Ok(())
 }
