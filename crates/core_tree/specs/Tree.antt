@@ -1,15 +1,22 @@
 -- The plain tree of a module, of which every definition speaks.
-use Rattle.std.specs.Prelude.{ℕ, suc, List, [], ◌∷◌, map, find, slice_get, nat_eq, Bool, Option}
+use Rattle.std.specs.Prelude.{ℕ, suc, List, [], ◌∷◌, map, find, slice_get, length, nat_eq, Bool, Option, Some, None}
 use Rattle.std.specs.Cmp.Lexicographic.{pointwise}
 use Rattle.prim_table.specs.declared.primitives.Primitive.{Primitive as Builtin}
+use Rattle.prim_table.specs.declared.primitives.Ty.{Ty}
+use Rattle.iface_text.specs.declared.interface.Row.{Row}
+use Rattle.iface_text.specs.declared.interface.RowKind.{RowKind}
+use Rattle.iface_text.specs.declared.interface.RowKind.TheVariants.{Fun}
 use Rattle.core_tree.specs.declared.tree.Const.{Const}
 use Rattle.core_tree.specs.declared.tree.VarId.{VarId}
 use Rattle.core_tree.specs.declared.tree.GlobalRef.{GlobalRef}
-use Rattle.core_tree.specs.declared.tree.GlobalRef.TheVariants.{Own}
+use Rattle.core_tree.specs.declared.tree.GlobalRef.TheVariants.{Own, Used}
 use Rattle.core_tree.specs.declared.tree.Node.{Node, fold-Node}
 use Rattle.core_tree.specs.declared.tree.Node.TheOpen.{Node-F}
 use Rattle.core_tree.specs.declared.tree.Top.{Top}
 use Rattle.core_tree.specs.declared.tree.Top.TheVariants.{Function}
+use Rattle.core_tree.specs.declared.tree.ImportItem.{ImportItem}
+use Rattle.core_tree.specs.declared.tree.Use.{Use}
+use Rattle.core_tree.specs.declared.tree.Use.TheVariants.{From, Need}
 use Rattle.core_tree.specs.declared.tree.Module.{Module}
 
 mutual
@@ -49,14 +56,17 @@ pub record FunctionTree : Type 0 where
 
 pub record ModuleTree : Type 0 where
   pub name : List ℕ
+  pub imports : List ImportItem
   pub functions : List FunctionTree
+  pub uses : List Use
+  pub exports : List Row
   pub main : Option (List ℕ)
 
 abbrev pub function_tree : Top → FunctionTree
 function_tree (Function name lambda) = record { name = name; params = lambda.params; body = tree lambda.body }
 
 abbrev pub module_tree : Module → ModuleTree
-module_tree m = record { name = m.name; functions = map function_tree m.tops; main = m.main }
+module_tree m = record { name = m.name; imports = m.imports; functions = map function_tree m.tops; uses = m.uses; exports = m.exports; main = m.main }
 
 -- Look-up -----------------------------------------------------------------------------------
 
@@ -67,9 +77,48 @@ is_called name f = pointwise nat_eq f.name name
 abbrev pub function_named : List FunctionTree → List ℕ → Option FunctionTree
 function_named functions name = find (is_called name) functions
 
--- the function that is called
+-- the function of the module that is called
 abbrev pub function_of : List FunctionTree → GlobalRef → Option FunctionTree
 function_of functions (Own n) = slice_get functions n
+function_of functions (Used n) = None
+
+-- Callees -----------------------------------------------------------------------------------
+
+-- the types of the parameters in a row
+abbrev pub params_in : RowKind → List Ty
+params_in (Fun params gives) = params
+
+-- a function that a call may name: its module, its name, and how many parameters it has
+pub record Callee : Type 0 where
+  pub module_name : List ℕ
+  pub name : List ℕ
+  pub params : ℕ
+
+abbrev pub own_callee : List ℕ → FunctionTree → Callee
+own_callee m f = record { module_name = m; name = f.name; params = length f.params }
+
+abbrev pub row_callee : List ℕ → Row → Callee
+row_callee m r = record { module_name = m; name = r.name; params = length (params_in r.kind) }
+
+abbrev pub found_own : List ℕ → Option FunctionTree → Option Callee
+found_own m None = None
+found_own m (Some f) = Some (own_callee m f)
+
+abbrev pub found_use : Option Use → Option Callee
+found_use None = None
+found_use (Some (From m r)) = Some (row_callee m r)
+found_use (Some (Need m r)) = None
+
+-- the function that is called, of the module or of another one
+abbrev pub callee_of : ModuleTree → GlobalRef → Option Callee
+callee_of m (Own n) = found_own m.name (slice_get m.functions n)
+callee_of m (Used n) = found_use (slice_get m.uses n)
+
+-- the functions of other modules that are called
+abbrev pub used_callees : List Use → List Callee
+used_callees [] = []
+used_callees (From m r ∷ us) = row_callee m r ∷ used_callees us
+used_callees (Need m r ∷ us) = used_callees us
 
 abbrev pub count : Trees → ℕ
 count none = 0

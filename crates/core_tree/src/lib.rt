@@ -3,4 +3,4 @@
 
 mod tree;
 
-pub use tree::{Const, GlobalRef, Lambda, Module, Node, Top, VarId};
+pub use tree::{Const, GlobalRef, ImportItem, Lambda, Module, Node, Top, Use, VarId};

@@ -34,7 +34,7 @@ valued (Some v) s = Gives v s
 abbrev pub apply : Lower → FunctionTree → List Value → State → Outcome Value
 apply lower f vs s = counted (length f.params) (length vs) s (take_turn s (λ s1. lower f.body (bound f.params vs []) s1))
 
--- the functions that a well-formed module calls are there
+-- the functions that a program of one module calls are there
 abbrev pub called : Lower → Option FunctionTree → List Value → State → Outcome Value
 called lower None vs s = Spends s
 called lower (Some f) vs s = apply lower f vs s

@@ -45,8 +45,10 @@ run_main functions main s turns = called (run functions turns) main (Empty ∷ [
 unfoldable pub src : ModuleTree → List ℕ → List (List ℕ) → ℕ → Observation
 src m input args turns = observed (run_main m.functions (main_of m m.main) (start m input turns) turns)
 
--- a module that is a program by itself: its main is a function of one parameter
+-- a module that is a program by itself: it takes nothing from another one, and its main is a function of one parameter
 pub record IsProgram (m : ModuleTree) : Type 0 where
+  pub no_imports : m.imports ≡ []
+  pub no_uses : m.uses ≡ []
   pub function : FunctionTree
   pub is : main_of m m.main ≡ Some function
   pub one : (x : VarId) × (function.params ≡ x ∷ [])

@@ -25,7 +25,7 @@ line_end = Primitive Newline none
 
 -- `(module hello (main go)) (define (go args) ...)`
 abbrev pub program : Trees → ModuleTree
-program body = record { name = codes "hello"; functions = record { name = codes "go"; params = record { 0 = 0 } ∷ []; body = Sequence body } ∷ []; main = Some (codes "go") }
+program body = record { name = codes "hello"; imports = []; uses = []; exports = []; functions = record { name = codes "go"; params = record { 0 = 0 } ∷ []; body = Sequence body } ∷ []; main = Some (codes "go") }
 
 abbrev pub observation : List ℕ → End → Observation
 observation output end = record { output = output; end = end }
@@ -71,7 +71,7 @@ x n = record { 0 = n }
 
 -- a first function, and `(define (go args) ...)`
 abbrev pub calling : FunctionTree → Trees → ModuleTree
-calling f body = record { name = codes "t"; functions = f ∷ function (codes "go") (x 9 ∷ []) body ∷ []; main = Some (codes "go") }
+calling f body = record { name = codes "t"; imports = []; uses = []; exports = []; functions = f ∷ function (codes "go") (x 9 ∷ []) body ∷ []; main = Some (codes "go") }
 
 abbrev pub call_of : Trees → Tree
 call_of args = Call (Own 0) args
