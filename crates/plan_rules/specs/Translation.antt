@@ -1,11 +1,11 @@
 -- The relation between a module and a unit. Which locals are temporaries, and their names, are free.
 -- A node is related to the code and the code after it.
-use Rattle.std.specs.Prelude.{◌≡◌, ◌⊎◌, ℕ, List, [], ◌∷◌, ◌++◌, map, pos, IsTrue, length, nat_eq, Bool, true, false, Option, Some, None}
+use Rattle.std.specs.Prelude.{◌≡◌, ◌⊎◌, ℕ, List, [], ◌∷◌, ◌++◌, map, replicate, pos, IsTrue, nat_eq, Bool, true, false, ◌&&◌, Option, Some, None, Contains}
 use Rattle.prim_table.specs.declared.primitives.Ty.{Ty}
 use Rattle.prim_table.specs.declared.primitives.Ty.TheVariants as ty
 use Rattle.prim_table.specs.Table.{params_of, result_of}
 use Rattle.core_tree.specs.declared.tree.VarId.{VarId}
-use Rattle.core_tree.specs.Tree.{Tree, Constant, Variable, If, Sequence, Call, Primitive, Trees, none, more, count, FunctionTree, ModuleTree, function_of}
+use Rattle.core_tree.specs.Tree.{Tree, Constant, Variable, If, Sequence, Call, Primitive, Trees, none, more, count, FunctionTree, ModuleTree, Callee, own_callee, used_callees, callee_of}
 use Rattle.c_tree.specs.declared.op.Op.TheVariants.{BoxLong, BoxBool, Primitive as Does}
 use Rattle.c_tree.specs.declared.tree.CTy.{CTy}
 use Rattle.c_tree.specs.declared.tree.CTy.TheVariants as c_ty
@@ -17,9 +17,9 @@ use Rattle.c_tree.specs.declared.tree.CExpr.{CExpr}
 use Rattle.c_tree.specs.declared.tree.CExpr.TheVariants as expr
 use Rattle.c_tree.specs.declared.tree.CVar.{CVar}
 use Rattle.c_tree.specs.Code.{Code, done, assign, call, return, test, loop, Fun, Item, declared, defined}
-use Rattle.c_tree.specs.Names.{function_name}
+use Rattle.c_tree.specs.Names.{function_name, maker_name, initializer_name}
 use Rattle.c_tree.specs.Spelling.{NamedItems}
-use Rattle.c_meaning.specs.Checked.{is_typed, variable_named, variables_of, is_sound}
+use Rattle.c_meaning.specs.Checked.{is_typed, variable_named, variables_of, are_distinct, defined_names, items_fit}
 use Rattle.plan_rules.specs.declared.rep.Rep.{Rep}
 use Rattle.plan_rules.specs.declared.rep.Rep.TheVariants.{Obj, Long, Bool as Truth_rep}
 use Rattle.plan_rules.specs.Representation.{Slot, PlainAt, Scope, slot_of, rep_of, c_type_of, has_of, operation, raise_count, raise_type, call_of, local, constant_expr, condition, Step, Keep, Make, Refuse, Unbuilt, step}
@@ -168,11 +168,15 @@ abbrev pub objects : Trees → List Ty
 objects none = []
 objects (more n ns) = ty.Obj ∷ objects ns
 
-abbrev pub is_counted : FunctionTree → Trees → Bool
-is_counted f ns = nat_eq (count ns) (length f.params)
+abbrev pub is_counted : Callee → Trees → Bool
+is_counted c ns = nat_eq (count ns) c.params
 
--- The module's name and functions, the variables in scope, and the locals of the function in which the statements stand.
-module _ (module_name : Name) (functions : List FunctionTree) (scope : Scope) (vars : List CVar) where
+-- the name of its C function
+abbrev pub c_name_of : Callee → Name
+c_name_of c = function_name c.module_name c.name
+
+-- The module, the variables in scope, and the locals of the function in which the statements stand.
+module _ (m : ModuleTree) (scope : Scope) (vars : List CVar) where
   -- a variable's value goes to a place in its own representation
   abbrev pub TrVariable : Option Slot → Rep → Statements
   TrVariable None h place code rest = ⊥
@@ -187,14 +191,14 @@ module _ (module_name : Name) (functions : List FunctionTree) (scope : Scope) (v
   TrConstant None place code rest = ⊥
   TrConstant (Some e) place code rest = code ≡ deliver place e rest
 
-  -- a call of a function of the module, where the number of arguments is right or not; `finish` does the call and what comes after
-  abbrev pub TrCounted : Bool → FunctionTree → (List Name → Code → Code → Type 0) → Trees → List Name → (CCall → Code) → Code → Code → Type 0
-  TrCounted true f arguments ns live finish code rest = Applied vars arguments (objects ns) (haves scope (objects ns) ns) live (λ args. finish (call_of (function_name module_name f.name) args)) code
-  TrCounted false f arguments ns live finish code rest = Miscounted vars arguments (length f.params) code rest
+  -- a call of a function, where the number of arguments is right or not; `finish` does the call and what comes after
+  abbrev pub TrCounted : Bool → Callee → (List Name → Code → Code → Type 0) → Trees → List Name → (CCall → Code) → Code → Code → Type 0
+  TrCounted true c arguments ns live finish code rest = Applied vars arguments (objects ns) (haves scope (objects ns) ns) live (λ args. finish (call_of (c_name_of c) args)) code
+  TrCounted false c arguments ns live finish code rest = Miscounted vars arguments c.params code rest
 
-  abbrev pub TrCall : Option FunctionTree → (List Name → Code → Code → Type 0) → Trees → List Name → (CCall → Code) → Code → Code → Type 0
+  abbrev pub TrCall : Option Callee → (List Name → Code → Code → Type 0) → Trees → List Name → (CCall → Code) → Code → Code → Type 0
   TrCall None arguments ns live finish code rest = ⊥
-  TrCall (Some f) arguments ns live finish code rest = TrCounted (is_counted f ns) f arguments ns live finish code rest
+  TrCall (Some c) arguments ns live finish code rest = TrCounted (is_counted c ns) c arguments ns live finish code rest
 
   unfoldable mutual
     -- the node's value, in a representation, goes to a place
@@ -209,7 +213,7 @@ module _ (module_name : Name) (functions : List FunctionTree) (scope : Scope) (v
     Tr (Sequence ts) h live place code rest = TrLast ts h live place code rest
     Tr (Call g ns) h live place code rest =
         (h ≡ Obj)
-        × TrCall (function_of functions g) (λ temporaries code middle. TrArguments (objects ns) ns live temporaries code middle) ns live (λ c. deliver place (expr.Call c) rest) code rest
+        × TrCall (callee_of m g) (λ temporaries code middle. TrArguments (objects ns) ns live temporaries code middle) ns live (λ c. deliver place (expr.Call c) rest) code rest
     Tr (Primitive p ns) h live place code rest =
         (h ≡ rep_of (result_of p))
         × Applied vars (λ temporaries code middle. TrArguments (params_of p) ns live temporaries code middle) (params_of p) (haves scope (params_of p) ns) live (λ args. deliver place (expr.Call (operation (Does p) args)) rest) code
@@ -223,7 +227,7 @@ module _ (module_name : Name) (functions : List FunctionTree) (scope : Scope) (v
         (λ code. TrUnused b live code done) (λ code. TrUnused c live code done) code rest
     TrUnused (Sequence ts) live code rest = TrAllUnused ts live code rest
     TrUnused (Call g ns) live code rest =
-        TrCall (function_of functions g) (λ temporaries code middle. TrArguments (objects ns) ns live temporaries code middle) ns live (λ c. call c rest) code rest
+        TrCall (callee_of m g) (λ temporaries code middle. TrArguments (objects ns) ns live temporaries code middle) ns live (λ c. call c rest) code rest
     TrUnused (Primitive p ns) live code rest =
         Applied vars (λ temporaries code middle. TrArguments (params_of p) ns live temporaries code middle) (params_of p) (haves scope (params_of p) ns) live (λ args. call (operation (Does p) args) rest) code
 
@@ -253,31 +257,71 @@ scope_of (x ∷ xs) (v ∷ vs) = (x, PlainAt Obj v.name) ∷ scope_of xs vs
 scope_of _ _ = []
 
 -- a function takes and gives words, and its statements are one loop around its body
-pub record TrFunction (module_name : Name) (functions : List FunctionTree) (f : FunctionTree) (g : Fun) : Type 0 where
-  pub name : g.name ≡ function_name module_name f.name
+pub record TrFunction (m : ModuleTree) (f : FunctionTree) (g : Fun) : Type 0 where
+  pub name : g.name ≡ function_name m.name f.name
   pub result : g.result ≡ c_ty.Obj
   pub params : map (λ v. v.ty) g.params ≡ map (λ _. c_ty.Obj) f.params
   pub label : Name
   pub body : Code
   pub looped : g.code ≡ loop label body done
-  pub translated : Tr module_name functions (scope_of f.params g.params) (variables_of g) (Sequence (more f.body none)) Obj (map (λ v. v.name) g.params) back body done
+  pub translated : Tr m (scope_of f.params g.params) (variables_of g) (Sequence (more f.body none)) Obj (map (λ v. v.name) g.params) back body done
 
--- the definitions, in order; the other items are declarations
-abbrev pub TrFunctions : Name → List FunctionTree → List FunctionTree → List Item → Type 0
-TrFunctions m functions fs (declared t name params ∷ is) = TrFunctions m functions fs is
-TrFunctions m functions [] [] = Unit {0}
-TrFunctions m functions (f ∷ fs) (defined g ∷ is) = TrFunction m functions f g × TrFunctions m functions fs is
-TrFunctions m functions _ _ = ⊥
+-- a function without parameters that does nothing: it gives `BGL_UNSPEC`
+pub record IsEmpty (name : Name) (g : Fun) : Type 0 where
+  pub named : g.name ≡ name
+  pub result : g.result ≡ c_ty.Obj
+  pub params : g.params ≡ []
+  pub locals : g.locals ≡ []
+  pub code : g.code ≡ return (expr.Atom atom.Unspec) done
 
--- what is declared is a function of the module
-abbrev pub AreOwn : Name → List FunctionTree → List Item → Type 0
-AreOwn m functions [] = Unit {0}
-AreOwn m functions (declared t name params ∷ is) = In name (map (λ f. function_name m f.name) functions) × AreOwn m functions is
-AreOwn m functions (defined g ∷ is) = AreOwn m functions is
+-- declarations alone
+abbrev pub DefineNothing : List Item → Type 0
+DefineNothing [] = Unit {0}
+DefineNothing (declared t name params ∷ is) = DefineNothing is
+DefineNothing (defined g ∷ is) = ⊥
 
--- the unit declares functions of the module and defines each of them, and taken alone it has a spelling and breaks no rule of C
+abbrev pub TrInitializer : ModuleTree → List Item → Type 0
+TrInitializer m [] = ⊥
+TrInitializer m (declared t name params ∷ is) = TrInitializer m is
+TrInitializer m (defined g ∷ is) = IsEmpty (initializer_name m.name) g × DefineNothing is
+
+-- the definitions, in order: the module's functions, its maker, which has nothing to make as long as functions are no values, and its initialisation, which has nothing to do as long as definitions are all its forms. The other items are declarations
+abbrev pub TrFunctions : ModuleTree → List FunctionTree → List Item → Type 0
+TrFunctions m fs [] = ⊥
+TrFunctions m fs (declared t name params ∷ is) = TrFunctions m fs is
+TrFunctions m (f ∷ fs) (defined g ∷ is) = TrFunction m f g × TrFunctions m fs is
+TrFunctions m [] (defined g ∷ is) = IsEmpty (maker_name m.name) g × TrInitializer m is
+
+-- Declarations ------------------------------------------------------------------------------
+
+-- what a unit may call: the functions of the module, and those of other modules that it uses
+abbrev pub callees : ModuleTree → List Callee
+callees m = map (own_callee m.name) m.functions ++ used_callees m.uses
+
+-- a function of one of these, which takes and gives words
+pub record IsDeclared (cs : List Callee) (t : CTy) (name : Name) (params : List CTy) : Type 0 where
+  pub callee : Callee
+  pub is_one : Contains cs callee
+  pub named : name ≡ c_name_of callee
+  pub gives : t ≡ c_ty.Obj
+  pub takes : params ≡ replicate callee.params c_ty.Obj
+
+abbrev pub AreDeclared : List Callee → List Item → Type 0
+AreDeclared cs [] = Unit {0}
+AreDeclared cs (declared t name params ∷ is) = IsDeclared cs t name params × AreDeclared cs is
+AreDeclared cs (defined g ∷ is) = AreDeclared cs is
+
+-- the C functions of other modules that a module calls
+abbrev pub outside_of : ModuleTree → List Name
+outside_of m = map c_name_of (used_callees m.uses)
+
+-- no rule of C is broken, where functions with these names are defined elsewhere
+unfoldable pub is_sound_with : List Name → List Item → Bool
+is_sound_with names items = are_distinct (defined_names items) && items_fit (names ++ defined_names items) [] items
+
+-- the unit declares what it may call and defines each function of the module, its maker and its initialisation, and taken alone it has a spelling and breaks no rule of C but that what it uses is defined elsewhere
 pub record Translated (m : ModuleTree) (items : List Item) : Type 0 where
-  pub functions : TrFunctions m.name m.functions m.functions items
-  pub own : AreOwn m.name m.functions items
+  pub functions : TrFunctions m m.functions items
+  pub declarations : AreDeclared (callees m) items
   pub named : NamedItems items
-  pub sound : IsTrue (is_sound items)
+  pub sound : IsTrue (is_sound_with (outside_of m) items)
