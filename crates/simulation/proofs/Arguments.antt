@@ -15,7 +15,7 @@ use Rattle.c_tree.specs.declared.tree.CExpr.TheVariants as expr
 use Rattle.c_tree.specs.declared.tree.CVar.{CVar}
 use Rattle.c_tree.specs.Code.{Code, call, Fun}
 use Rattle.c_meaning.specs.State.{Frame, State as CState, Flow}
-use Rattle.c_meaning.specs.Execution.{Lower, position_of, eval, exec}
+use Rattle.c_meaning.specs.Execution.{Lower, position_of, exec}
 use Rattle.plan_rules.specs.declared.rep.Rep.{Rep}
 use Rattle.plan_rules.specs.Representation.{rep_of, operation, local}
 use Rattle.plan_rules.specs.Translation.{Name, In, Place, deliver, AllFit, Applied}
@@ -24,6 +24,7 @@ use Rattle.simulation.proofs.Worlds.{World, IsRep, rep_moves, rep_grows, Same}
 use Rattle.simulation.proofs.Ends.{Base, Moved, Answered, Ended, bind_ends, onwards, Reached, reached_on, Arrived, arrived_on, Passes, delivered, dropped}
 use Rattle.simulation.proofs.Fits.{AllRep, value, AllArgs, AllDone, passed, failed, all_done, as_many}
 use Rattle.simulation.proofs.Primitives.{acts_alike}
+use Rattle.simulation.proofs.Evaluations.{eval}
 
 counted_so : {A : Type 0} (want have : ℕ) (s : State) (o : Outcome A) → nat_eq have want ≡ true → counted want have s o ≡ o
 counted_so want have s o e = ap (λ b. if b then o else src.Raises 2 (decimal_text want) s) e

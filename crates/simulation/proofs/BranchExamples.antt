@@ -1,11 +1,11 @@
 -- Small modules and units with `if` and truth values that are translations: where the value of an `if` goes, how its test comes, and where truth values go.
-use Rattle.std.proofs.Common.{rules, ◌≡◌, List, [], ◌∷◌, true, false, refl, inl}
+use Rattle.std.proofs.Common.{rules, ◌≡◌, List, [], ◌∷◌, true, false, refl}
 use Rattle.std.specs.Prelude.{codes}
 use Rattle.base_io.specs.declared.end.End.TheVariants.{Ended, Raised}
 use Rattle.scheme_data.specs.Decimal.{decimal_text}
 use Rattle.prim_table.specs.declared.primitives.Ty.TheVariants as ty
 use Rattle.prim_table.specs.declared.primitives.Primitive.TheVariants.{Display, Newline}
-use Rattle.core_tree.specs.Tree.{Tree, If, Sequence, none, more, FunctionTree, ModuleTree}
+use Rattle.core_tree.specs.Tree.{Tree, If, Sequence, none, more, FunctionTree, ModuleTree, own_callee}
 use Rattle.c_tree.specs.declared.op.Op.TheVariants.{UnboxLong, Truth, Primitive as Does}
 use Rattle.c_tree.specs.declared.tree.CTy.TheVariants.{Obj, Long, Int}
 use Rattle.c_tree.specs.declared.tree.CAtom.TheVariants as atom
@@ -13,14 +13,13 @@ use Rattle.c_tree.specs.declared.tree.CExpr.{CExpr}
 use Rattle.c_tree.specs.declared.tree.CExpr.TheVariants as expr
 use Rattle.c_tree.specs.declared.tree.CVar.{CVar}
 use Rattle.c_tree.specs.Code.{Code, done, assign, call, return, test, Item, declared, defined}
-use Rattle.c_tree.specs.Names.{function_name, is_function_name, is_local_name, is_label_name}
-use Rattle.c_meaning.specs.Checked.{is_sound}
+use Rattle.c_tree.specs.Names.{function_name, maker_name, initializer_name, is_function_name, is_local_name, is_label_name}
 use Rattle.c_meaning.specs.Program.{cm}
 use Rattle.plan_rules.specs.Joined.{joined}
 use Rattle.plan_rules.specs.Representation.{raise_type, operation, local}
-use Rattle.plan_rules.specs.Translation.{Name, Tr, TrUnused, TrAllUnused, TrLast, TrArguments, Translated}
+use Rattle.plan_rules.specs.Translation.{Name, Tr, TrUnused, TrAllUnused, TrLast, TrArguments, callees, is_sound_with, Translated}
 use Rattle.simulation.specs.Law.{KeepsMeaning, IsFaithful}
-use Rattle.simulation.proofs.ExampleUnits.{fresh, int, truth, sum_of, less_of, shown, line_end, variable, x0, x1, x2, x3, x4, x5, calls, var, plus, is_less, boxed, boxed_truth, a_number, a_word, a_local, call_first, calls_function, function, below, hello, one_word, unit, function_so, translated_so, kept_one, kept_two}
+use Rattle.simulation.proofs.ExampleUnits.{fresh, int, truth, sum_of, less_of, shown, line_end, variable, x0, x1, x2, x3, x4, x5, calls, var, plus, is_less, boxed, boxed_truth, a_number, a_word, a_local, call_first, calls_function, function, below, hello, one_word, unit, function_so, empties_so, declared_so, translated_so, kept_one, kept_two}
 use Rattle.simulation.proofs.Main.{keeps_meaning}
 
 abbrev is_word_true : Name → CExpr
@@ -42,7 +41,7 @@ abbrev argument_code : Code
 argument_code = assign x1 (a_local x0) (test (is_word_true x1) (assign x2 (a_word 1) done) (assign x2 (a_word 2) done) sum_code)
 
 branch_as_argument : Translated (hello argument_body) (unit argument_locals argument_code)
-unfolding Tr TrUnused TrAllUnused TrLast TrArguments is_sound function_name is_function_name is_local_name is_label_name
+unfolding Tr TrUnused TrAllUnused TrLast TrArguments is_sound_with function_name maker_name initializer_name is_function_name is_local_name is_label_name
 branch_as_argument = translated_so argument_locals argument_body argument_code
     (record {
       temporary = x5;
@@ -95,7 +94,7 @@ abbrev result_code : Code
 result_code = assign x1 (a_number 2) (assign x2 (a_number 3) (assign x3 (is_less x1 x2) (test (a_local x3) result_first (return (expr.Atom atom.False) done) done)))
 
 branch_result : Translated (hello result_body) (unit result_locals result_code)
-unfolding Tr TrUnused TrAllUnused TrLast TrArguments is_sound function_name is_function_name is_local_name is_label_name
+unfolding Tr TrUnused TrAllUnused TrLast TrArguments is_sound_with function_name maker_name initializer_name is_function_name is_local_name is_label_name
 branch_result = translated_so result_locals result_body result_code (
   refl,
   record {
@@ -150,7 +149,7 @@ abbrev unused_code : Code
 unused_code = assign x1 (a_number 1) (test (a_local x1) (call (operation (Does Newline) []) done) done (return (a_word 0) done))
 
 branch_unused : Translated (hello unused_body) (unit (var Int x1 ∷ []) unused_code)
-unfolding Tr TrUnused TrAllUnused TrLast TrArguments is_sound function_name is_function_name is_local_name is_label_name
+unfolding Tr TrUnused TrAllUnused TrLast TrArguments is_sound_with function_name maker_name initializer_name is_function_name is_local_name is_label_name
 branch_unused = translated_so (var Int x1 ∷ []) unused_body unused_code
     (record {
       middle = return (a_word 0) done;
@@ -184,7 +183,7 @@ abbrev number_code : Code
 number_code = assign x1 (a_number 0) (test (a_number 1) (return (a_word 7) done) (return (a_word 8) done) done)
 
 number_test : Translated (hello number_body) (unit (var Long x1 ∷ []) number_code)
-unfolding Tr TrUnused TrAllUnused TrLast TrArguments is_sound function_name is_function_name is_local_name is_label_name
+unfolding Tr TrUnused TrAllUnused TrLast TrArguments is_sound_with function_name maker_name initializer_name is_function_name is_local_name is_label_name
 number_test = translated_so (var Long x1 ∷ []) number_body number_code (
   refl,
   record { temporary = x1; middle = _; first = _; second = _; fresh = fresh x1 (x0 ∷ []) refl; is_local = refl; given = refl; is = refl; taken = refl; else_taken = refl },
@@ -205,7 +204,7 @@ nested_code =
     (test (is_word_true x2) (return (a_word 1) done) inner_code done))
 
 nested_branches : Translated (hello nested_body) (unit (var Obj x1 ∷ var Obj x2 ∷ var Int x3 ∷ []) nested_code)
-unfolding Tr TrUnused TrAllUnused TrLast TrArguments is_sound function_name is_function_name is_local_name is_label_name
+unfolding Tr TrUnused TrAllUnused TrLast TrArguments is_sound_with function_name maker_name initializer_name is_function_name is_local_name is_label_name
 nested_branches = translated_so (var Obj x1 ∷ var Obj x2 ∷ var Int x3 ∷ []) nested_body nested_code (
   refl,
   record {
@@ -230,7 +229,7 @@ abbrev constant_code : Code
 constant_code = assign x1 (expr.Atom atom.True) (return (calls (Does Display) (local x1 ∷ [])) done)
 
 truth_shown : Translated (hello (shown (truth true))) (unit (var Obj x1 ∷ []) constant_code)
-unfolding Tr TrUnused TrAllUnused TrLast TrArguments is_sound function_name is_function_name is_local_name is_label_name
+unfolding Tr TrUnused TrAllUnused TrLast TrArguments is_sound_with function_name maker_name initializer_name is_function_name is_local_name is_label_name
 truth_shown = translated_so (var Obj x1 ∷ []) (shown (truth true)) constant_code (
   refl,
   record {
@@ -253,7 +252,7 @@ abbrev order_code : Code
 order_code = assign x1 (a_number 1) (assign x2 (a_number 2) (assign x3 (is_less x1 x2) (assign x4 (boxed_truth x3) (return (calls (Does Display) (local x4 ∷ [])) done))))
 
 order_shown : Translated (hello (shown (less_of (int 1) (int 2)))) (unit order_locals order_code)
-unfolding Tr TrUnused TrAllUnused TrLast TrArguments is_sound function_name is_function_name is_local_name is_label_name
+unfolding Tr TrUnused TrAllUnused TrLast TrArguments is_sound_with function_name maker_name initializer_name is_function_name is_local_name is_label_name
 order_shown = translated_so order_locals (shown (less_of (int 1) (int 2))) order_code (
   refl,
   record {
@@ -293,7 +292,7 @@ abbrev order_result_code : Code
 order_result_code = assign x1 (a_number 1) (assign x2 (a_number 2) (assign x3 (is_less x1 x2) (return (boxed_truth x3) done)))
 
 order_result : Translated (hello (less_of (int 1) (int 2))) (unit order_locals order_result_code)
-unfolding Tr TrUnused TrAllUnused TrLast TrArguments is_sound function_name is_function_name is_local_name is_label_name
+unfolding Tr TrUnused TrAllUnused TrLast TrArguments is_sound_with function_name maker_name initializer_name is_function_name is_local_name is_label_name
 order_result = translated_so order_locals (less_of (int 1) (int 2)) order_result_code
     (record {
       temporary = x3;
@@ -327,7 +326,7 @@ abbrev refused_code : Code
 refused_code = assign x1 (a_number 1) (assign x2 (a_number 1) (call (raise_type ty.Long) (assign x3 (a_number 0) (assign x4 (plus x1 x3) (return (boxed x4) done)))))
 
 truth_refused : Translated (hello refused_body) (unit refused_locals refused_code)
-unfolding Tr TrUnused TrAllUnused TrLast TrArguments is_sound function_name is_function_name is_local_name is_label_name
+unfolding Tr TrUnused TrAllUnused TrLast TrArguments is_sound_with function_name maker_name initializer_name is_function_name is_local_name is_label_name
 truth_refused = translated_so refused_locals refused_body refused_code
     (record {
       temporary = x4;
@@ -391,11 +390,11 @@ abbrev counting_unit : List Item
 counting_unit = declared Obj (function_name (codes "hello") f_name) (Obj ∷ []) ∷ defined (one_word f_name counting_locals counting_code) ∷ unit (var Obj x1 ∷ []) start_code
 
 calls_in_a_block : Translated counting counting_unit
-unfolding Tr TrUnused TrAllUnused TrLast TrArguments is_sound function_name is_function_name is_local_name is_label_name
+unfolding Tr TrUnused TrAllUnused TrLast TrArguments is_sound_with function_name maker_name initializer_name is_function_name is_local_name is_label_name
 calls_in_a_block =
     record {
       functions = (
-        function_so (counting_function ∷ []) (call_first (more (int 0) none)) f_name counting_locals counting_body counting_code (
+        function_so counting f_name counting_locals counting_body counting_code (
           refl,
           record {
             temporary = x4;
@@ -467,7 +466,7 @@ calls_in_a_block =
           },
         ),
         (
-          function_so (counting_function ∷ []) (call_first (more (int 0) none)) (codes "go") (var Obj x1 ∷ []) (call_first (more (int 0) none)) start_code (
+          function_so counting (codes "go") (var Obj x1 ∷ []) (call_first (more (int 0) none)) start_code (
             refl,
             record {
               temporaries = x1 ∷ [];
@@ -479,10 +478,10 @@ calls_in_a_block =
               fit = kept_one _ x1 (x1 ∷ x0 ∷ []) _;
             },
           ),
-          tt,
+          empties_so counting,
         ),
       );
-      own = (inl refl, tt);
+      declarations = (declared_so (callees counting) 0 (own_callee (codes "hello") counting_function) refl, tt);
       named = search rules;
       sound = refl;
     }
@@ -494,42 +493,42 @@ linked items = joined (codes "hello") (codes "go") items
 
 -- the arguments are the empty list, which is true
 argument_is_the_first : cm (linked (unit argument_locals argument_code)) [] [] 1 ≡ record { output = []; end = Ended 4 }
-unfolding cm joined decimal_text function_name
+unfolding cm joined decimal_text function_name maker_name initializer_name
 argument_is_the_first = refl
 
 result_is_the_sum : cm (linked (unit result_locals result_code)) [] [] 1 ≡ record { output = []; end = Ended 42 }
-unfolding cm joined decimal_text function_name
+unfolding cm joined decimal_text function_name maker_name initializer_name
 result_is_the_sum = refl
 
 unused_goes_on : cm (linked (unit (var Int x1 ∷ []) unused_code)) [] [] 1 ≡ record { output = 10 ∷ []; end = Ended 0 }
-unfolding cm joined decimal_text function_name
+unfolding cm joined decimal_text function_name maker_name initializer_name
 unused_goes_on = refl
 
 zero_is_true : cm (linked (unit (var Long x1 ∷ []) number_code)) [] [] 1 ≡ record { output = []; end = Ended 7 }
-unfolding cm joined decimal_text function_name
+unfolding cm joined decimal_text function_name maker_name initializer_name
 zero_is_true = refl
 
 nested_is_the_last : cm (linked (unit (var Obj x1 ∷ var Obj x2 ∷ var Int x3 ∷ []) nested_code)) [] [] 1 ≡ record { output = []; end = Ended 3 }
-unfolding cm joined decimal_text function_name
+unfolding cm joined decimal_text function_name maker_name initializer_name
 nested_is_the_last = refl
 
 truth_prints : cm (linked (unit (var Obj x1 ∷ []) constant_code)) [] [] 1 ≡ record { output = codes "#t"; end = Ended 0 }
-unfolding cm joined decimal_text function_name
+unfolding cm joined decimal_text function_name maker_name initializer_name
 truth_prints = refl
 
 order_prints : cm (linked (unit order_locals order_code)) [] [] 1 ≡ record { output = codes "#t"; end = Ended 0 }
-unfolding cm joined decimal_text function_name
+unfolding cm joined decimal_text function_name maker_name initializer_name
 order_prints = refl
 
 no_long : cm (linked (unit refused_locals refused_code)) [] [] 1 ≡ record { output = []; end = Raised 1 (codes "long") }
-unfolding cm joined decimal_text function_name
+unfolding cm joined decimal_text function_name maker_name initializer_name
 no_long = refl
 
 counts_up : cm (linked counting_unit) [] [] 5 ≡ record { output = []; end = Ended 3 }
-unfolding cm joined decimal_text function_name
+unfolding cm joined decimal_text function_name maker_name initializer_name
 counts_up = refl
 
 -- and the law says so of the module
 faithful : IsFaithful counting (codes "go") counting_unit
 unfolding KeepsMeaning
-faithful = keeps_meaning counting (codes "go") counting_unit refl (record { function = _; is = refl; one = (record { 0 = 0 }, refl) }) calls_in_a_block
+faithful = keeps_meaning counting (codes "go") counting_unit refl (record { no_imports = refl; no_uses = refl; function = _; is = refl; one = (record { 0 = 0 }, refl) }) calls_in_a_block

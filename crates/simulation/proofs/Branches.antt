@@ -12,7 +12,7 @@ use Rattle.c_meaning.specs.State.{Cell, ANumber, Frame, State as CState, Flow, A
 use Rattle.c_meaning.specs.State as c
 use Rattle.c_meaning.specs.Operations.{ACell, operate, truth_number}
 use Rattle.c_meaning.specs.Operations as op
-use Rattle.c_meaning.specs.Execution.{Lower, position_of, eval, exec}
+use Rattle.c_meaning.specs.Execution.{Lower, position_of, exec}
 use Rattle.plan_rules.specs.declared.rep.Rep.{Rep}
 use Rattle.plan_rules.specs.declared.rep.Rep.TheVariants.{Obj, Long, Bool as Truth_rep}
 use Rattle.plan_rules.specs.Representation.{condition}
@@ -21,6 +21,7 @@ use Rattle.simulation.proofs.Frames.{names, Target}
 use Rattle.simulation.proofs.Worlds.{World, WordOf, IsRep, Same}
 use Rattle.simulation.proofs.Ends.{Base, Moved, bind_ends, onwards, Arrived, At}
 use Rattle.simulation.proofs.Arguments.{from, Sink, at_place, nowhere, Settled, Settles, settled_on}
+use Rattle.simulation.proofs.Evaluations.{eval}
 
 -- The condition -----------------------------------------------------------------------------
 

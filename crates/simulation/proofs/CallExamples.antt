@@ -1,23 +1,22 @@
 -- Small modules and units with calls that are translations: where a call's value goes, what its arguments are, and how many.
-use Rattle.std.proofs.Common.{rules, ◌≡◌, List, [], ◌∷◌, true, refl, inl}
+use Rattle.std.proofs.Common.{rules, ◌≡◌, List, [], ◌∷◌, true, refl}
 use Rattle.std.specs.Prelude.{codes}
 use Rattle.base_io.specs.declared.end.End.TheVariants.{Ended, Raised, Spent}
 use Rattle.scheme_data.specs.Decimal.{decimal_text}
 use Rattle.prim_table.specs.declared.primitives.Primitive.TheVariants.{Display}
-use Rattle.core_tree.specs.Tree.{Tree, Sequence, none, more, FunctionTree, ModuleTree}
+use Rattle.core_tree.specs.Tree.{Tree, Sequence, none, more, FunctionTree, ModuleTree, own_callee}
 use Rattle.c_tree.specs.declared.op.Op.TheVariants.{Primitive as Does}
 use Rattle.c_tree.specs.declared.tree.CTy.TheVariants.{Obj, Long}
 use Rattle.c_tree.specs.declared.tree.CVar.{CVar}
 use Rattle.c_tree.specs.Code.{Code, done, assign, call, return, Item, declared, defined}
-use Rattle.c_tree.specs.Names.{function_name, is_function_name, is_local_name, is_label_name}
+use Rattle.c_tree.specs.Names.{function_name, maker_name, initializer_name, is_function_name, is_local_name, is_label_name}
 use Rattle.c_tree.specs.Spelling.{NamedItems}
-use Rattle.c_meaning.specs.Checked.{is_sound}
 use Rattle.c_meaning.specs.Program.{cm}
 use Rattle.plan_rules.specs.Joined.{joined}
 use Rattle.plan_rules.specs.Representation.{raise_count, call_of, operation, local}
-use Rattle.plan_rules.specs.Translation.{Name, Tr, TrUnused, TrAllUnused, TrLast, TrArguments, Translated}
+use Rattle.plan_rules.specs.Translation.{Name, Tr, TrUnused, TrAllUnused, TrLast, TrArguments, callees, is_sound_with, Translated}
 use Rattle.simulation.specs.Law.{KeepsMeaning, IsFaithful}
-use Rattle.simulation.proofs.ExampleUnits.{fresh, int, sum_of, shown, variable, x0, x1, x2, x3, x4, calls, var, plus, boxed, a_number, a_word, a_local, call_first, calls_function, function, below, one_word, unit, Body, function_so, kept_one, kept_two}
+use Rattle.simulation.proofs.ExampleUnits.{fresh, int, sum_of, shown, variable, x0, x1, x2, x3, x4, calls, var, plus, boxed, a_number, a_word, a_local, call_first, calls_function, function, below, one_word, unit, Body, function_so, empties_so, declared_so, kept_one, kept_two}
 use Rattle.simulation.proofs.Main.{keeps_meaning}
 
 -- Calls of `(define (f n) n)` ---------------------------------------------------------------
@@ -34,10 +33,10 @@ calling body = below (same ∷ []) body
 abbrev units : List CVar → Code → List Item
 units locals code = defined (one_word f_name [] (return (a_local x0) done)) ∷ unit locals code
 
-calling_so : (locals : List CVar) (body : Tree) (code : Code) → Body (calling body) locals body code → NamedItems (units locals code) → is_sound (units locals code) ≡ true → Translated (calling body) (units locals code)
+calling_so : (locals : List CVar) (body : Tree) (code : Code) → Body (calling body) locals body code → NamedItems (units locals code) → is_sound_with [] (units locals code) ≡ true → Translated (calling body) (units locals code)
 unfolding Tr TrUnused TrAllUnused TrLast TrArguments
 calling_so locals body code translated named sound =
-    record { functions = (function_so (same ∷ []) body f_name [] (variable 0) _ (refl, refl), (function_so (same ∷ []) body (codes "go") locals body code translated, tt)); own = tt; named = named; sound = sound }
+    record { functions = (function_so (calling body) f_name [] (variable 0) _ (refl, refl), (function_so (calling body) (codes "go") locals body code translated, empties_so (calling body))); declarations = tt; named = named; sound = sound }
 
 abbrev f_of : Tree → Tree
 f_of t = call_first (more t none)
@@ -47,7 +46,7 @@ abbrev tail_code : Code
 tail_code = assign x1 (a_word 7) (return (calls_function f_name (local x1 ∷ [])) done)
 
 call_result : Translated (calling (f_of (int 7))) (units (var Obj x1 ∷ []) tail_code)
-unfolding Tr TrUnused TrAllUnused TrLast TrArguments is_sound function_name is_function_name is_local_name is_label_name
+unfolding Tr TrUnused TrAllUnused TrLast TrArguments is_sound_with function_name maker_name initializer_name is_function_name is_local_name is_label_name
 call_result = calling_so (var Obj x1 ∷ []) (f_of (int 7)) tail_code (
   refl,
   record {
@@ -67,7 +66,7 @@ abbrev local_code : Code
 local_code = assign x1 (a_word 7) (assign x2 (calls_function f_name (local x1 ∷ [])) (return (calls (Does Display) (local x2 ∷ [])) done))
 
 call_shown : Translated (calling (shown (f_of (int 7)))) (units (var Obj x1 ∷ var Obj x2 ∷ []) local_code)
-unfolding Tr TrUnused TrAllUnused TrLast TrArguments is_sound function_name is_function_name is_local_name is_label_name
+unfolding Tr TrUnused TrAllUnused TrLast TrArguments is_sound_with function_name maker_name initializer_name is_function_name is_local_name is_label_name
 call_shown = calling_so (var Obj x1 ∷ var Obj x2 ∷ []) (shown (f_of (int 7))) local_code (
   refl,
   record {
@@ -110,7 +109,7 @@ abbrev unused_code : Code
 unused_code = assign x1 (a_local x0) (call (call_of (function_name (codes "hello") f_name) (local x1 ∷ [])) (return (a_word 0) done))
 
 call_unused : Translated (calling unused_call) (units (var Obj x1 ∷ []) unused_code)
-unfolding Tr TrUnused TrAllUnused TrLast TrArguments is_sound function_name is_function_name is_local_name is_label_name
+unfolding Tr TrUnused TrAllUnused TrLast TrArguments is_sound_with function_name maker_name initializer_name is_function_name is_local_name is_label_name
 call_unused = calling_so (var Obj x1 ∷ []) unused_call unused_code
     (record {
       middle = _;
@@ -135,7 +134,7 @@ abbrev boxed_code : Code
 boxed_code = assign x1 (a_number 1) (assign x2 (a_number 2) (assign x3 (plus x1 x2) (assign x4 (boxed x3) (return (calls_function f_name (local x4 ∷ [])) done))))
 
 call_of_sum : Translated (calling (f_of (sum_of (int 1) (int 2)))) (units boxed_locals boxed_code)
-unfolding Tr TrUnused TrAllUnused TrLast TrArguments is_sound function_name is_function_name is_local_name is_label_name
+unfolding Tr TrUnused TrAllUnused TrLast TrArguments is_sound_with function_name maker_name initializer_name is_function_name is_local_name is_label_name
 call_of_sum = calling_so boxed_locals (f_of (sum_of (int 1) (int 2))) boxed_code (
   refl,
   record {
@@ -180,7 +179,7 @@ abbrev many_code : Code
 many_code = assign x1 (a_word 1) (assign x2 (a_word 2) (call (raise_count 1) done))
 
 too_many : Translated (calling two_words) (units (var Obj x1 ∷ var Obj x2 ∷ []) many_code)
-unfolding Tr TrUnused TrAllUnused TrLast TrArguments is_sound function_name is_function_name is_local_name is_label_name
+unfolding Tr TrUnused TrAllUnused TrLast TrArguments is_sound_with function_name maker_name initializer_name is_function_name is_local_name is_label_name
 too_many = calling_so (var Obj x1 ∷ var Obj x2 ∷ []) two_words many_code (
   refl,
   record {
@@ -200,7 +199,7 @@ abbrev few_code : Code
 few_code = call (raise_count 1) (return (a_word 0) done)
 
 too_few : Translated (calling too_few_parts) (units [] few_code)
-unfolding Tr TrUnused TrAllUnused TrLast TrArguments is_sound function_name is_function_name is_local_name is_label_name
+unfolding Tr TrUnused TrAllUnused TrLast TrArguments is_sound_with function_name maker_name initializer_name is_function_name is_local_name is_label_name
 too_few = calling_so [] too_few_parts few_code (record { middle = _; one = record { temporaries = []; middle = _; is = refl; values = (refl, refl) }; all = refl }) (search rules) refl
 
 -- `(define (f n) (display n) (f n))` --------------------------------------------------------
@@ -225,11 +224,11 @@ abbrev endless_unit : List Item
 endless_unit = declared Obj (function_name (codes "hello") f_name) (Obj ∷ []) ∷ defined (one_word f_name (var Obj x1 ∷ var Obj x2 ∷ []) endless_code) ∷ unit (var Obj x1 ∷ []) tail_code
 
 calls_itself : Translated endless endless_unit
-unfolding Tr TrUnused TrAllUnused TrLast TrArguments is_sound function_name is_function_name is_local_name is_label_name
+unfolding Tr TrUnused TrAllUnused TrLast TrArguments is_sound_with function_name maker_name initializer_name is_function_name is_local_name is_label_name
 calls_itself =
     record {
       functions = (
-        function_so (endless_function ∷ []) (f_of (int 7)) f_name (var Obj x1 ∷ var Obj x2 ∷ []) endless_body endless_code
+        function_so endless f_name (var Obj x1 ∷ var Obj x2 ∷ []) endless_body endless_code
             (record {
               middle = again_code;
               one = record {
@@ -255,7 +254,7 @@ calls_itself =
               );
             }),
         (
-          function_so (endless_function ∷ []) (f_of (int 7)) (codes "go") (var Obj x1 ∷ []) (f_of (int 7)) tail_code (
+          function_so endless (codes "go") (var Obj x1 ∷ []) (f_of (int 7)) tail_code (
             refl,
             record {
               temporaries = x1 ∷ [];
@@ -267,10 +266,10 @@ calls_itself =
               fit = kept_one _ x1 (x1 ∷ x0 ∷ []) _;
             },
           ),
-          tt,
+          empties_so endless,
         ),
       );
-      own = (inl refl, tt);
+      declarations = (declared_so (callees endless) 0 (own_callee (codes "hello") endless_function) refl, tt);
       named = search rules;
       sound = refl;
     }
@@ -281,22 +280,22 @@ abbrev linked : List Item → List Item
 linked items = joined (codes "hello") (codes "go") items
 
 call_prints : cm (linked (units (var Obj x1 ∷ var Obj x2 ∷ []) local_code)) [] [] 2 ≡ record { output = codes "7"; end = Ended 0 }
-unfolding cm joined decimal_text function_name
+unfolding cm joined decimal_text function_name maker_name initializer_name
 call_prints = refl
 
 sum_is_the_status : cm (linked (units boxed_locals boxed_code)) [] [] 2 ≡ record { output = []; end = Ended 3 }
-unfolding cm joined decimal_text function_name
+unfolding cm joined decimal_text function_name maker_name initializer_name
 sum_is_the_status = refl
 
 wrong_number : cm (linked (units (var Obj x1 ∷ var Obj x2 ∷ []) many_code)) [] [] 2 ≡ record { output = []; end = Raised 2 (codes "1") }
-unfolding cm joined decimal_text function_name
+unfolding cm joined decimal_text function_name maker_name initializer_name
 wrong_number = refl
 
 for_ever : cm (linked endless_unit) [] [] 4 ≡ record { output = codes "777"; end = Spent }
-unfolding cm joined decimal_text function_name
+unfolding cm joined decimal_text function_name maker_name initializer_name
 for_ever = refl
 
 -- and the law says so of the module
 faithful : IsFaithful endless (codes "go") endless_unit
 unfolding KeepsMeaning
-faithful = keeps_meaning endless (codes "go") endless_unit refl (record { function = _; is = refl; one = (record { 0 = 0 }, refl) }) calls_itself
+faithful = keeps_meaning endless (codes "go") endless_unit refl (record { no_imports = refl; no_uses = refl; function = _; is = refl; one = (record { 0 = 0 }, refl) }) calls_itself

@@ -9,11 +9,12 @@ use Rattle.c_tree.specs.Code.{Code, Fun}
 use Rattle.c_meaning.specs.Word.{Word}
 use Rattle.c_meaning.specs.State.{Cell, Frame, State as CState, put, Answer, Flow, with}
 use Rattle.c_meaning.specs.State as c
-use Rattle.c_meaning.specs.Execution.{Lower, position_of, eval, exec}
+use Rattle.c_meaning.specs.Execution.{Lower, position_of, exec}
 use Rattle.plan_rules.specs.declared.rep.Rep.{Rep}
 use Rattle.plan_rules.specs.Translation.{Name, In, Place, into, back, deliver}
 use Rattle.simulation.proofs.Frames.{names, Kept, kept_same, kept_on, put_here, kept_put, Free}
 use Rattle.simulation.proofs.Worlds.{World, AtBlock, WordOf, IsRep, rep_moves, Grows, grows_same, grows_on, hide, Frozen, frozen_same, frozen_on, frozen_hidden, Same}
+use Rattle.simulation.proofs.Evaluations.{eval}
 
 -- from where a part begins
 pub record Base : Type 0 where

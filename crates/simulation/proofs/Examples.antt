@@ -9,12 +9,11 @@ use Rattle.c_tree.specs.declared.op.Op.TheVariants.{UnboxLong, Primitive as Does
 use Rattle.c_tree.specs.declared.tree.CTy.TheVariants.{Obj, Long}
 use Rattle.c_tree.specs.declared.tree.CVar.{CVar}
 use Rattle.c_tree.specs.Code.{Code, done, assign, call, return, Item}
-use Rattle.c_tree.specs.Names.{function_name, is_function_name, is_local_name, is_label_name}
-use Rattle.c_meaning.specs.Checked.{is_sound}
+use Rattle.c_tree.specs.Names.{function_name, maker_name, initializer_name, is_function_name, is_local_name, is_label_name}
 use Rattle.c_meaning.specs.Program.{cm}
 use Rattle.plan_rules.specs.Joined.{joined}
 use Rattle.plan_rules.specs.Representation.{operation, local}
-use Rattle.plan_rules.specs.Translation.{Tr, TrUnused, TrAllUnused, TrLast, TrArguments, Translated}
+use Rattle.plan_rules.specs.Translation.{Tr, TrUnused, TrAllUnused, TrLast, TrArguments, is_sound_with, Translated}
 use Rattle.simulation.specs.Law.{KeepsMeaning, IsFaithful}
 use Rattle.simulation.proofs.ExampleUnits.{fresh, int, sum_of, shown, line_end, variable, x0, x1, x2, x3, x4, x5, calls, var, plus, boxed, a_number, a_word, a_local, hello, unit, translated_so, kept_one, kept_two}
 use Rattle.simulation.proofs.Main.{keeps_meaning}
@@ -23,7 +22,7 @@ use Rattle.simulation.proofs.Main.{keeps_meaning}
 
 -- A constant, as a word
 constant_word : Translated (hello (int 42)) (unit [] (return (a_word 42) done))
-unfolding Tr TrUnused TrAllUnused TrLast TrArguments is_sound function_name is_function_name is_local_name is_label_name
+unfolding Tr TrUnused TrAllUnused TrLast TrArguments is_sound_with function_name maker_name initializer_name is_function_name is_local_name is_label_name
 constant_word = translated_so [] (int 42) _ refl (search rules) refl
 
 -- Constants, as numbers, and a sum as the function's result
@@ -34,7 +33,7 @@ abbrev sum_code : Code
 sum_code = assign x1 (a_number 40) (assign x2 (a_number 2) (assign x3 (plus x1 x2) (return (boxed x3) done)))
 
 sum_result : Translated (hello (sum_of (int 40) (int 2))) (unit sum_locals sum_code)
-unfolding Tr TrUnused TrAllUnused TrLast TrArguments is_sound function_name is_function_name is_local_name is_label_name
+unfolding Tr TrUnused TrAllUnused TrLast TrArguments is_sound_with function_name maker_name initializer_name is_function_name is_local_name is_label_name
 sum_result = translated_so sum_locals (sum_of (int 40) (int 2)) sum_code
     (record {
       temporary = x3;
@@ -65,7 +64,7 @@ abbrev unboxed_code : Code
 unboxed_code = assign x1 (a_word 1) (assign x2 (calls (Does Display) (local x1 ∷ [])) (assign x3 (a_number 2) (assign x4 (calls UnboxLong (local x2 ∷ [])) (assign x5 (plus x4 x3) (return (boxed x5) done)))))
 
 sum_of_display : Translated (hello (sum_of (shown (int 1)) (int 2))) (unit unboxed_locals unboxed_code)
-unfolding Tr TrUnused TrAllUnused TrLast TrArguments is_sound function_name is_function_name is_local_name is_label_name
+unfolding Tr TrUnused TrAllUnused TrLast TrArguments is_sound_with function_name maker_name initializer_name is_function_name is_local_name is_label_name
 sum_of_display = translated_so unboxed_locals (sum_of (shown (int 1)) (int 2)) unboxed_code
     (record {
       temporary = x5;
@@ -123,7 +122,7 @@ abbrev boxed_code : Code
 boxed_code = assign x1 (a_number 1) (assign x2 (a_number 2) (assign x3 (plus x1 x2) (assign x4 (boxed x3) (return (calls (Does Display) (local x4 ∷ [])) done))))
 
 display_of_sum : Translated (hello (shown (sum_of (int 1) (int 2)))) (unit boxed_locals boxed_code)
-unfolding Tr TrUnused TrAllUnused TrLast TrArguments is_sound function_name is_function_name is_local_name is_label_name
+unfolding Tr TrUnused TrAllUnused TrLast TrArguments is_sound_with function_name maker_name initializer_name is_function_name is_local_name is_label_name
 display_of_sum = translated_so boxed_locals (shown (sum_of (int 1) (int 2))) boxed_code (
   refl,
   record {
@@ -166,7 +165,7 @@ abbrev parts_code : Code
 parts_code = assign x1 (a_word 1) (call (operation (Does Display) (local x1 ∷ [])) (call (operation (Does Newline) []) (return (a_word 0) done)))
 
 unused_parts : Translated (hello parts) (unit (var Obj x1 ∷ []) parts_code)
-unfolding Tr TrUnused TrAllUnused TrLast TrArguments is_sound function_name is_function_name is_local_name is_label_name
+unfolding Tr TrUnused TrAllUnused TrLast TrArguments is_sound_with function_name maker_name initializer_name is_function_name is_local_name is_label_name
 unused_parts = translated_so (var Obj x1 ∷ []) parts parts_code
     (record {
       middle = parts_code;
@@ -202,7 +201,7 @@ abbrev nested_code : Code
 nested_code = call (operation (Does Newline) []) (assign x1 (a_number 1) (assign x2 (a_number 2) (assign x3 (plus x1 x2) (assign x4 (boxed x3) (call (operation (Does Display) (local x4 ∷ [])) (return (calls (Does Newline) []) done))))))
 
 nested_sequence : Translated (hello nested) (unit nested_locals nested_code)
-unfolding Tr TrUnused TrAllUnused TrLast TrArguments is_sound function_name is_function_name is_local_name is_label_name
+unfolding Tr TrUnused TrAllUnused TrLast TrArguments is_sound_with function_name maker_name initializer_name is_function_name is_local_name is_label_name
 nested_sequence = translated_so nested_locals nested nested_code
     (record {
       middle = return (calls (Does Newline) []) done;
@@ -254,7 +253,7 @@ nested_sequence = translated_so nested_locals nested nested_code
 
 -- A parameter as the function's result
 parameter_result : Translated (hello (variable 0)) (unit [] (return (a_local x0) done))
-unfolding Tr TrUnused TrAllUnused TrLast TrArguments is_sound function_name is_function_name is_local_name is_label_name
+unfolding Tr TrUnused TrAllUnused TrLast TrArguments is_sound_with function_name maker_name initializer_name is_function_name is_local_name is_label_name
 parameter_result = translated_so [] (variable 0) _ (refl, refl) (search rules) refl
 
 -- A parameter as an argument: its word goes to a temporary
@@ -262,7 +261,7 @@ abbrev copied_code : Code
 copied_code = assign x1 (a_local x0) (return (calls (Does Display) (local x1 ∷ [])) done)
 
 parameter_shown : Translated (hello (shown (variable 0))) (unit (var Obj x1 ∷ []) copied_code)
-unfolding Tr TrUnused TrAllUnused TrLast TrArguments is_sound function_name is_function_name is_local_name is_label_name
+unfolding Tr TrUnused TrAllUnused TrLast TrArguments is_sound_with function_name maker_name initializer_name is_function_name is_local_name is_label_name
 parameter_shown = translated_so (var Obj x1 ∷ []) (shown (variable 0)) copied_code (
   refl,
   record {
@@ -279,7 +278,7 @@ parameter_shown = translated_so (var Obj x1 ∷ []) (shown (variable 0)) copied_
 
 -- A parameter that nobody takes has no statement
 parameter_unused : Translated (hello (Sequence (more (variable 0) (more (int 0) none)))) (unit [] (return (a_word 0) done))
-unfolding Tr TrUnused TrAllUnused TrLast TrArguments is_sound function_name is_function_name is_local_name is_label_name
+unfolding Tr TrUnused TrAllUnused TrLast TrArguments is_sound_with function_name maker_name initializer_name is_function_name is_local_name is_label_name
 parameter_unused = translated_so [] (Sequence (more (variable 0) (more (int 0) none))) _ (record { middle = _; one = refl; all = refl }) (search rules) refl
 
 -- Linked programs ---------------------------------------------------------------------------
@@ -288,18 +287,18 @@ abbrev linked : List CVar → Code → List Item
 linked locals code = joined (codes "hello") (codes "go") (unit locals code)
 
 display_prints : cm (linked boxed_locals boxed_code) [] [] 1 ≡ record { output = codes "3"; end = Ended 0 }
-unfolding cm joined decimal_text function_name
+unfolding cm joined decimal_text function_name maker_name initializer_name
 display_prints = refl
 
 sum_is_the_status : cm (linked sum_locals sum_code) [] [] 1 ≡ record { output = []; end = Ended 42 }
-unfolding cm joined decimal_text function_name
+unfolding cm joined decimal_text function_name maker_name initializer_name
 sum_is_the_status = refl
 
 no_long : cm (linked unboxed_locals unboxed_code) [] [] 1 ≡ record { output = codes "1"; end = Raised 1 (codes "long") }
-unfolding cm joined decimal_text function_name
+unfolding cm joined decimal_text function_name maker_name initializer_name
 no_long = refl
 
 -- and the law says so of the module
 faithful : IsFaithful (hello parts) (codes "go") (unit (var Obj x1 ∷ []) parts_code)
 unfolding KeepsMeaning
-faithful = keeps_meaning (hello parts) (codes "go") (unit (var Obj x1 ∷ []) parts_code) refl (record { function = _; is = refl; one = (record { 0 = 0 }, refl) }) unused_parts
+faithful = keeps_meaning (hello parts) (codes "go") (unit (var Obj x1 ∷ []) parts_code) refl (record { no_imports = refl; no_uses = refl; function = _; is = refl; one = (record { 0 = 0 }, refl) }) unused_parts

@@ -3,16 +3,16 @@ use Rattle.std.proofs.Common.{◌≡◌, ℕ, zero, suc, List, [], ◌∷◌, �
 use Rattle.std.specs.Prelude.{find, not, ◌&&◌, ◌||◌, slice_get, IsTrue, if◌then◌else◌}
 use Rattle.std.specs.List.{list_any}
 use Rattle.std.proofs.lemmas.Bool.{and_parts}
-use Rattle.core_tree.specs.Tree.{FunctionTree}
+use Rattle.core_tree.specs.Tree.{FunctionTree, ModuleTree}
 use Rattle.c_tree.specs.Code.{Fun, Item, declared, defined}
-use Rattle.c_tree.specs.Names.{function_name, is_function_name, is_main}
+use Rattle.c_tree.specs.Names.{function_name, maker_name, initializer_name, is_function_name}
 use Rattle.c_tree.specs.Spelling.{NamedItems}
 use Rattle.c_meaning.specs.Execution.{is_same, fun_named}
-use Rattle.c_meaning.specs.Checked.{Signature, signature_of, is_main_function, is_looped, callable, item_fits, agrees, items_fit, defined_names, are_distinct, variables_of}
+use Rattle.c_meaning.specs.Checked.{Signature, signature_of, role_of, has_shape, callable, item_fits, agrees, items_fit, defined_names, are_distinct, variables_of}
 use Rattle.c_meaning.specs.Program.{functions_of}
-use Rattle.plan_rules.specs.Translation.{Name, TrFunction, TrFunctions}
+use Rattle.plan_rules.specs.Translation.{Name, TrFunction, IsEmpty, TrInitializer, TrFunctions}
 use Rattle.simulation.proofs.Frames.{names}
-use Rattle.simulation.proofs.Names.{same_name, same_test, turned, not_parts}
+use Rattle.simulation.proofs.Names.{same_name, same_test, turned, not_parts, function_not_maker, function_not_initializer, maker_not_initializer}
 
 -- Functions of a program --------------------------------------------------------------------
 
@@ -48,25 +48,25 @@ named_function (defined h ∷ is) n g e named = go (is_same h.name n) refl e (λ
 -- Functions of a module ---------------------------------------------------------------------
 
 -- a function's translation in a program
-pub record Found (m : Name) (functions : List FunctionTree) (p : List Fun) (f : FunctionTree) : Type 0 where
+pub record Found (m : ModuleTree) (p : List Fun) (f : FunctionTree) : Type 0 where
   pub g : Fun
-  pub at : fun_named p (function_name m f.name) ≡ Some g
-  pub translated : TrFunction m functions f g
+  pub at : fun_named p (function_name m.name f.name) ≡ Some g
+  pub translated : TrFunction m f g
   pub distinct : are_distinct (names (variables_of g)) ≡ true
 
-found_first : (m : Name) (functions : List FunctionTree) (f : FunctionTree) (g : Fun) (is : List Item) (defined_before : List Name) (sigs : List Signature) → TrFunction m functions f g → item_fits defined_before sigs (defined g) ≡ true → Found m functions (functions_of (defined g ∷ is)) f
-found_first m functions f g is defined_before sigs tr fits =
-    let here : is_same g.name (function_name m f.name) ≡ true = same_test g.name (function_name m f.name) tr.name in
-    let parts = and_parts (are_distinct (names (variables_of g))) (if is_main g.name then is_main_function (callable defined_before sigs) g else is_looped (callable defined_before sigs) (variables_of g) g.result g.code) fits in
-    record { g = g; at = ap (λ b. if b then Some g else fun_named (functions_of is) (function_name m f.name)) here; translated = tr; distinct = parts.0 }
+found_first : (m : ModuleTree) (f : FunctionTree) (g : Fun) (is : List Item) (defined_before : List Name) (sigs : List Signature) → TrFunction m f g → item_fits defined_before sigs (defined g) ≡ true → Found m (functions_of (defined g ∷ is)) f
+found_first m f g is defined_before sigs tr fits =
+    let here : is_same g.name (function_name m.name f.name) ≡ true = same_test g.name (function_name m.name f.name) tr.name in
+    let parts = and_parts (are_distinct (names (variables_of g))) (has_shape (callable (role_of g.name) defined_before sigs) (role_of g.name) g) fits in
+    record { g = g; at = ap (λ b. if b then Some g else fun_named (functions_of is) (function_name m.name f.name)) here; translated = tr; distinct = parts.0 }
 
 -- another function's definition hides none
-found_later : (m : Name) (functions : List FunctionTree) (f : FunctionTree) (g : Fun) (is : List Item) → list_any (is_same g.name) (defined_names is) ≡ false → Found m functions (functions_of is) f → Found m functions (functions_of (defined g ∷ is)) f
-found_later m functions f g is alone h =
+found_later : (m : ModuleTree) (f : FunctionTree) (g : Fun) (is : List Item) → list_any (is_same g.name) (defined_names is) ≡ false → Found m (functions_of is) f → Found m (functions_of (defined g ∷ is)) f
+found_later m f g is alone h =
     record { g = h.g; at = ap (λ b. if b then Some g else fun_named (functions_of is) n) (other (is_same g.name n) refl) ∙ h.at; translated = h.translated; distinct = h.distinct }
   where
     n : Name
-    n = function_name m f.name
+    n = function_name m.name f.name
 
     other : (b : Bool) → is_same g.name n ≡ b → is_same g.name n ≡ false
     other true eb =
@@ -74,24 +74,63 @@ found_later m functions f g is alone h =
     other false eb = eb
 
 -- the function of a number
-pub found : (m : Name) (functions fs : List FunctionTree) (items : List Item) (all : List Name) (sigs : List Signature) → TrFunctions m functions fs items → are_distinct (defined_names items) ≡ true → items_fit all sigs items ≡ true → (k : ℕ) (f : FunctionTree) → slice_get fs k ≡ Some f → Found m functions (functions_of items) f
-found m functions [] items all sigs tr dist fit k f e = absurd (cc)
-found m functions (x ∷ fs) [] all sigs tr dist fit k f e = absurd tr
-found m functions (x ∷ fs) (declared t n ps ∷ is) all sigs tr dist fit k f e =
+pub found : (m : ModuleTree) (fs : List FunctionTree) (items : List Item) (all : List Name) (sigs : List Signature) → TrFunctions m fs items → are_distinct (defined_names items) ≡ true → items_fit all sigs items ≡ true → (k : ℕ) (f : FunctionTree) → slice_get fs k ≡ Some f → Found m (functions_of items) f
+found m [] items all sigs tr dist fit k f e = absurd (cc)
+found m (x ∷ fs) [] all sigs tr dist fit k f e = absurd tr
+found m (x ∷ fs) (declared t n ps ∷ is) all sigs tr dist fit k f e =
     let parts = and_parts (agrees sigs (signature_of (declared t n ps)) && true) (items_fit all (signature_of (declared t n ps) ∷ sigs) is) fit in
-    found m functions (x ∷ fs) is all (signature_of (declared t n ps) ∷ sigs) tr dist parts.1 k f e
-found m functions (x ∷ fs) (defined g ∷ is) all sigs tr dist fit zero f e =
+    found m (x ∷ fs) is all (signature_of (declared t n ps) ∷ sigs) tr dist parts.1 k f e
+found m (x ∷ fs) (defined g ∷ is) all sigs tr dist fit zero f e =
     let parts = and_parts (agrees sigs (signature_of (defined g)) && item_fits all sigs (defined g)) (items_fit all (signature_of (defined g) ∷ sigs) is) fit in
     let here = and_parts (agrees sigs (signature_of (defined g))) (item_fits all sigs (defined g)) parts.0 in
     let same : x ≡ f = cc in
-    subst (λ y. Found m functions (functions_of (defined g ∷ is)) y) same (found_first m functions x g is all sigs tr.0 here.1)
-found m functions (x ∷ fs) (defined g ∷ is) all sigs tr dist fit (suc k) f e =
+    subst (λ y. Found m (functions_of (defined g ∷ is)) y) same (found_first m x g is all sigs tr.0 here.1)
+found m (x ∷ fs) (defined g ∷ is) all sigs tr dist fit (suc k) f e =
     let parts = and_parts (agrees sigs (signature_of (defined g)) && item_fits all sigs (defined g)) (items_fit all (signature_of (defined g) ∷ sigs) is) fit in
     let alone = and_parts (not (list_any (is_same g.name) (defined_names is))) (are_distinct (defined_names is)) dist in
-    found_later m functions f g is (not_parts (list_any (is_same g.name) (defined_names is)) alone.0) (found m functions fs is all (signature_of (defined g) ∷ sigs) tr.1 alone.1 parts.1 k f e)
+    found_later m f g is (not_parts (list_any (is_same g.name) (defined_names is)) alone.0) (found m fs is all (signature_of (defined g) ∷ sigs) tr.1 alone.1 parts.1 k f e)
 
-pub found_before : (m : Name) (functions : List FunctionTree) (f : FunctionTree) (items more : List Item) → Found m functions (functions_of items) f → Found m functions (functions_of (items ++ more)) f
-found_before m functions f items more h = record { g = h.g; at = stays_found items more (function_name m f.name) h.g h.at; translated = h.translated; distinct = h.distinct }
+-- The maker and the initialisation ----------------------------------------------------------
+
+-- an empty function of this name is in a program
+pub record Empty_found (p : List Fun) (n : Name) : Type 0 where
+  pub g : Fun
+  pub at : fun_named p n ≡ Some g
+  pub empty : IsEmpty n g
+
+first_empty : (n : Name) (g : Fun) (is : List Item) → IsEmpty n g → Empty_found (functions_of (defined g ∷ is)) n
+first_empty n g is empty = record { g = g; at = ap (λ b. if b then Some g else fun_named (functions_of is) n) (same_test g.name n empty.named); empty = empty }
+
+later_empty : (n : Name) (g : Fun) (is : List Item) → is_same g.name n ≡ false → Empty_found (functions_of is) n → Empty_found (functions_of (defined g ∷ is)) n
+later_empty n g is other h = record { g = h.g; at = ap (λ b. if b then Some g else fun_named (functions_of is) n) other ∙ h.at; empty = h.empty }
+
+initializer_at : (m : ModuleTree) (items : List Item) → TrInitializer m items → Empty_found (functions_of items) (initializer_name m.name)
+initializer_at m [] tr = absurd tr
+initializer_at m (declared t n ps ∷ is) tr = initializer_at m is tr
+initializer_at m (defined g ∷ is) tr = first_empty (initializer_name m.name) g is tr.0
+
+pub maker_found : (m : ModuleTree) (fs : List FunctionTree) (items : List Item) → TrFunctions m fs items → Empty_found (functions_of items) (maker_name m.name)
+maker_found m fs [] tr = absurd tr
+maker_found m [] (declared t n ps ∷ is) tr = maker_found m [] is tr
+maker_found m (f ∷ fs) (declared t n ps ∷ is) tr = maker_found m (f ∷ fs) is tr
+maker_found m (f ∷ fs) (defined g ∷ is) tr =
+    later_empty (maker_name m.name) g is (ap (λ y. is_same y (maker_name m.name)) tr.0.name ∙ function_not_maker m.name f.name) (maker_found m fs is tr.1)
+maker_found m [] (defined g ∷ is) tr = first_empty (maker_name m.name) g is tr.0
+
+pub initializer_found : (m : ModuleTree) (fs : List FunctionTree) (items : List Item) → TrFunctions m fs items → Empty_found (functions_of items) (initializer_name m.name)
+initializer_found m fs [] tr = absurd tr
+initializer_found m [] (declared t n ps ∷ is) tr = initializer_found m [] is tr
+initializer_found m (f ∷ fs) (declared t n ps ∷ is) tr = initializer_found m (f ∷ fs) is tr
+initializer_found m (f ∷ fs) (defined g ∷ is) tr =
+    later_empty (initializer_name m.name) g is (ap (λ y. is_same y (initializer_name m.name)) tr.0.name ∙ function_not_initializer m.name f.name) (initializer_found m fs is tr.1)
+initializer_found m [] (defined g ∷ is) tr =
+    later_empty (initializer_name m.name) g is (ap (λ y. is_same y (initializer_name m.name)) tr.0.named ∙ maker_not_initializer m.name) (initializer_at m is tr.1)
+
+pub empty_before : (n : Name) (items more : List Item) → Empty_found (functions_of items) n → Empty_found (functions_of (items ++ more)) n
+empty_before n items more h = record { g = h.g; at = stays_found items more n h.g h.at; empty = h.empty }
+
+pub found_before : (m : ModuleTree) (f : FunctionTree) (items more : List Item) → Found m (functions_of items) f → Found m (functions_of (items ++ more)) f
+found_before m f items more h = record { g = h.g; at = stays_found items more (function_name m.name f.name) h.g h.at; translated = h.translated; distinct = h.distinct }
 
 -- what a test finds has a number
 pub record Numbered {X : Type 0} (test : X → Bool) (xs : List X) (x : X) : Type 0 where

@@ -7,11 +7,13 @@ pub mod Callees
 pub mod Calls
 pub mod Checked
 pub mod Ends
+pub mod Evaluations
 pub mod ExampleUnits
 pub mod Examples
 pub mod Fits
 pub mod Found
 pub mod Frames
+pub mod ImportExamples
 pub mod Main
 pub mod Names
 pub mod Nodes

@@ -4,7 +4,7 @@ use Rattle.std.specs.Prelude.{pos}
 use Rattle.core_tree.specs.declared.tree.Const.{Const}
 use Rattle.core_tree.specs.declared.tree.Const.TheVariants.{Int, Bool as Truth}
 use Rattle.core_tree.specs.declared.tree.VarId.{VarId}
-use Rattle.core_tree.specs.Tree.{FunctionTree}
+use Rattle.core_tree.specs.Tree.{ModuleTree}
 use Rattle.meaning.specs.Value.{Value, Fixnum, Boolean, State}
 use Rattle.meaning.specs.Value as src
 use Rattle.meaning.specs.Evaluation.{Environment, valued, value_of, constant}
@@ -17,7 +17,7 @@ use Rattle.c_tree.specs.Code.{Code, Fun}
 use Rattle.c_meaning.specs.Word as word
 use Rattle.c_meaning.specs.State.{Cell, AWord, ANumber, Frame, State as CState}
 use Rattle.c_meaning.specs.State as c
-use Rattle.c_meaning.specs.Execution.{Lower, position_of, eval, exec}
+use Rattle.c_meaning.specs.Execution.{Lower, position_of, exec}
 use Rattle.plan_rules.specs.declared.rep.Rep.{Rep}
 use Rattle.plan_rules.specs.declared.rep.Rep.TheVariants.{Obj, Long, Bool as Truth_rep}
 use Rattle.plan_rules.specs.Representation.{Slot, PlainAt, Scope, slot_of, operation, local, constant_expr}
@@ -27,6 +27,7 @@ use Rattle.simulation.proofs.Worlds.{World, IsRep, grows_same, frozen_same, hide
 use Rattle.simulation.proofs.Boxes.{Boxes}
 use Rattle.simulation.proofs.Ends.{Base, moved_same, Answers, At, Passed, delivered}
 use Rattle.simulation.proofs.Scopes.{InSlot, stands, Ready}
+use Rattle.simulation.proofs.Evaluations.{eval}
 
 module _ (vars : List CVar) (p : List Fun) (lower : Lower) where
   -- an expression that changes nothing is delivered
@@ -41,8 +42,8 @@ module _ (vars : List CVar) (p : List Fun) (lower : Lower) where
   boxed_answers o x v world f s t h same =
       record { later = world; cell = AWord h.w; t = t; is = h.is; here = record { w = h.w; is = refl; means = h.means }; grows = grows_same world; frozen = frozen_same (hide world) s; same = same }
 
-  module _ (m : Name) (functions : List FunctionTree) (scope : Scope) (env : Environment) (limit : ℕ) where
-    pub constant_ends : (k : Const) (h : Rep) (b : Base) (place : Place) (code rest : Code) (t : CState) → TrConstant m functions scope vars (constant_expr k h) place code rest → Free vars b.live place → Same b.world b.state t → At vars p lower place h rest b (src.Gives (constant k) b.state) (exec p lower (names vars) code b.frame t)
+  module _ (m : ModuleTree) (scope : Scope) (env : Environment) (limit : ℕ) where
+    pub constant_ends : (k : Const) (h : Rep) (b : Base) (place : Place) (code rest : Code) (t : CState) → TrConstant m scope vars (constant_expr k h) place code rest → Free vars b.live place → Same b.world b.state t → At vars p lower place h rest b (src.Gives (constant k) b.state) (exec p lower (names vars) code b.frame t)
     constant_ends (Int n) Obj b place code rest t is free same =
         plain Obj b place _ code rest (Fixnum n) (AWord (word.Fixnum n)) t is refl (record { w = word.Fixnum n; is = refl; means = refl }) free same
     constant_ends (Int n) Long b place code rest t is free same = plain Long b place _ code rest (Fixnum n) (ANumber n) t is refl (record { n = n; value = refl; is = refl }) free same
@@ -54,18 +55,18 @@ module _ (vars : List CVar) (p : List Fun) (lower : Lower) where
     constant_ends (Truth false) Truth_rep b place code rest t is free same = plain Truth_rep b place _ code rest (Boolean false) (ANumber (pos 0)) t is refl (record { b = false; value = refl; is = refl }) free same
 
     -- a value in its slot
-    slot_ends : (slot : Slot) (h : Rep) (b : Base) (place : Place) (code rest : Code) (v : Value) (t : CState) → InSlot vars b.world b.frame b.live slot v → TrVariable m functions scope vars (Some slot) h place code rest → Free vars b.live place → Same b.world b.state t → At vars p lower place h rest b (src.Gives v b.state) (exec p lower (names vars) code b.frame t)
+    slot_ends : (slot : Slot) (h : Rep) (b : Base) (place : Place) (code rest : Code) (v : Value) (t : CState) → InSlot vars b.world b.frame b.live slot v → TrVariable m scope vars (Some slot) h place code rest → Free vars b.live place → Same b.world b.state t → At vars p lower place h rest b (src.Gives v b.state) (exec p lower (names vars) code b.frame t)
     slot_ends (PlainAt r y) h b place code rest v t at is free same =
         subst (λ z. At vars p lower place z rest b (src.Gives v b.state) (exec p lower (names vars) code b.frame t)) (sym is.0)
         (plain r b place (expr.Atom (atom.Name y)) code rest v (b.frame (position_of y (names vars))) t is.1 refl at.here free same)
 
-    pub variable_ends : (x : VarId) (found : Option Slot) → slot_of x scope ≡ found → (h : Rep) (b : Base) (place : Place) (code rest : Code) (t : CState) → TrVariable m functions scope vars found h place code rest → Free vars b.live place → Ready vars scope env limit b t → At vars p lower place h rest b (valued (value_of x env) b.state) (exec p lower (names vars) code b.frame t)
+    pub variable_ends : (x : VarId) (found : Option Slot) → slot_of x scope ≡ found → (h : Rep) (b : Base) (place : Place) (code rest : Code) (t : CState) → TrVariable m scope vars found h place code rest → Free vars b.live place → Ready vars scope env limit b t → At vars p lower place h rest b (valued (value_of x env) b.state) (exec p lower (names vars) code b.frame t)
     variable_ends x None e h b place code rest t is free ready = absurd is
     variable_ends x (Some slot) e h b place code rest t is free ready =
         let at = stands vars b.world b.frame b.live x slot ready.scoped e in
         subst (λ o. At vars p lower place h rest b (valued o b.state) (exec p lower (names vars) code b.frame t)) (sym at.is) (slot_ends slot h b place code rest at.v t at.at is free ready.same)
 
-    pub variable_unused : (x : VarId) (found : Option Slot) → slot_of x scope ≡ found → (b : Base) (code rest : Code) (t : CState) → TrVariableUnused m functions scope vars found code rest → Ready vars scope env limit b t → Passed vars p lower rest b (valued (value_of x env) b.state) (exec p lower (names vars) code b.frame t)
+    pub variable_unused : (x : VarId) (found : Option Slot) → slot_of x scope ≡ found → (b : Base) (code rest : Code) (t : CState) → TrVariableUnused m scope vars found code rest → Ready vars scope env limit b t → Passed vars p lower rest b (valued (value_of x env) b.state) (exec p lower (names vars) code b.frame t)
     variable_unused x None e b code rest t is ready = absurd is
     variable_unused x (Some slot) e b code rest t is ready =
         let at = stands vars b.world b.frame b.live x slot ready.scoped e in
