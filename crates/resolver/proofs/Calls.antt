@@ -9,9 +9,10 @@ use Rattle.scheme_data.specs.declared.datum.Datum.TheVariants as datum
 use Rattle.core_tree.specs.declared.tree.Node.{Node}
 use Rattle.core_tree.specs.declared.tree.Node.TheVariants as node
 use Rattle.core_tree.specs.Tree.{Tree, If, Trees, trees, tree, none}
-use Rattle.resolver.specs.Elaboration.{Scope, Operator, count, symbol_of, operator, branched, applied, onto, expression, expressions, non_empty}
+use Rattle.module_head.specs.Heads.{symbol_of}
+use Rattle.resolver.specs.Drafts.{Scope, Operator, count, operator, branched, applied, onto, expression, expressions, non_empty}
 use Rattle.resolver.specs.Parts.{node_trees}
-use Rattle.resolver.proofs.TypedNames.{rest_is}
+use Rattle.resolver.proofs.Lists.{rest_is}
 use Rattle.resolver.proofs.Layers.{plain_list, tree_if, tree_sequence}
 
 -- `args` of `[first, args @ ..]`

@@ -1,7 +1,7 @@
 -- Variables in order of their numbers.
 use Rattle.std.proofs.Common.{◌≡◌, ℕ, zero, suc, ◌+◌, ◌-◌, ◌≤◌, List, [], ◌∷◌, ◌++◌, length, refl, sym, ap, ◌∙◌, arith}
 use Rattle.core_tree.specs.declared.tree.VarId.{VarId}
-use Rattle.resolver.specs.Elaboration.{variables}
+use Rattle.resolver.specs.Drafts.{variables}
 use Rattle.resolver.specs.Parts.{numbered_from}
 
 pub variables_are : (first : ℕ) (names : List (List ℕ)) → variables first names ≡ numbered_from first (length names)
@@ -20,6 +20,3 @@ numbered_more first n vs ws l h w =
     let next : suc (n - first) ≡ n + 1 - first = omega arith in
     w ∙ ap (λ vs. vs ++ record { 0 = n } ∷ []) h ∙ ap (λ k. numbered_from first (n - first) ++ record { 0 = k } ∷ []) at
     ∙ sym (numbered_last first (n - first)) ∙ ap (numbered_from first) next
-
-pub numbered_none : (first : ℕ) (vs : List VarId) → vs ≡ [] → vs ≡ numbered_from first (first - first)
-numbered_none first vs e = let none : 0 ≡ first - first = omega arith in e ∙ ap (numbered_from first) none

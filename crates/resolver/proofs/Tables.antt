@@ -7,9 +7,11 @@ use Rattle.std.specs.Cmp.Lexicographic.{nat_list_eq_equiv}
 use Rattle.scheme_data.specs.Data.{plain, plain_all}
 use Rattle.scheme_data.specs.declared.datum.Datum.{Datum}
 use Rattle.resolver.specs.declared.definitions.Definition.{Definition}
-use Rattle.resolver.specs.Elaboration.{is_word, symbol_of, is_bound_name, are_distinct, onto_names, names, function_names}
+use Rattle.module_head.specs.Heads.{is_word, symbol_of, are_distinct}
+use Rattle.resolver.specs.Names.{is_bound_name}
+use Rattle.resolver.specs.Drafts.{onto_names, names, function_names}
 use Rattle.resolver.specs.Parts.{distinct, definition_of}
-use Rattle.resolver.proofs.Lists.{ahead, ahead_all}
+use Rattle.resolver.proofs.Lists.{ahead}
 
 and_false : (b : Bool) → (b && false) ≡ false
 and_false true = refl
@@ -90,11 +92,6 @@ names_next ds xs i d l e h =
     h.so_far ∙ ap (λ (ds : List Datum). ahead xs (names (plain_all ds))) (drop_more ds i d l)
     ∙ ap (λ (d : Datum). ahead xs (onto_names (symbol_of (plain d)) (names (plain_all (drop (i + 1) ds))))) (sym e)
 
-pub not_a_name : (ds : List Datum) (xs : List (List ℕ)) (i : ℕ) (d : Datum) → i < length ds → d ≡ get_or ds i d → IsRead ds xs i
-    → None ≡ symbol_of (plain d) → None ≡ distinct (names (plain_all ds))
-not_a_name ds xs i d l e h n =
-    sym (ap distinct (names_next ds xs i d l e h ∙ ap (λ o. ahead xs (onto_names o (names (plain_all (drop (i + 1) ds))))) (sym n)))
-
 onto_where : (x : List ℕ) (o : Option (List (List ℕ))) (t : Bool) → is_bound_name x ≡ t → onto_names (Some x) o ≡ (if t then ahead (x ∷ []) o else None)
 onto_where x None true e = refl
 onto_where x None false e = refl
@@ -134,10 +131,6 @@ read_more ds xs ys i d x l e h n b t y = record {
     go None = refl
     go (Some zs) = ap Some (sym (append_assoc xs (x ∷ []) zs))
 
-pub read_all : (ds : List Datum) (xs : List (List ℕ)) (i : ℕ) → length ds ≤ i → IsRead ds xs i → Some xs ≡ distinct (names (plain_all ds))
-read_all ds xs i l h =
-    sym (ap distinct (h.so_far ∙ ap (λ (ds : List Datum). ahead xs (names (plain_all ds))) (drop_all i ds l) ∙ sym (ahead_all xs)) ∙ distinct_where xs true h.none_twice)
-
 -- Functions ---------------------------------------------------------------------------------
 
 -- the names of these functions are listed, and none of them stands twice
@@ -164,8 +157,3 @@ listed_more ds xs ys i d l e h t y = record {
   so_far = listed_next ds xs i d l e h ∙ sym (append_assoc xs (d.name.now ∷ []) (function_names (map definition_of (drop (i + 1) ds))))
       ∙ ap (λ ys. ys ++ function_names (map definition_of (drop (i + 1) ds))) (sym y);
 }
-
-pub listed_all : (ds : List Definition) (xs : List (List ℕ)) (i : ℕ) → length ds ≤ i → IsListed ds xs i → Some xs ≡ distinct (Some (function_names (map definition_of ds)))
-listed_all ds xs i l h =
-    sym (ap (λ xs. distinct (Some xs)) (h.so_far ∙ ap (λ (ds : List Definition). xs ++ function_names (map definition_of ds)) (drop_all i ds l) ∙ append-nil xs)
-    ∙ distinct_where xs true h.none_twice)

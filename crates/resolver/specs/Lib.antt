@@ -1,2 +1,7 @@
+pub mod Drafts
 pub mod Elaboration
+pub mod Names
 pub mod Parts
+pub mod Rows
+pub mod TakenRows
+pub mod UseTables

@@ -1,38 +1,34 @@
 -- What the parts of the resolver give.
 use Rattle.std.specs.Prelude.{ℕ, zero, suc, List, [], ◌∷◌, map, Option, Some, None, if◌then◌else◌}
-use Rattle.scheme_data.specs.Data.{Plain, Listed, Plains, plain_all}
+use Rattle.scheme_data.specs.Data.{plain_all}
+use Rattle.module_head.specs.Heads.{are_distinct}
+use Rattle.module_head.specs.Trees.{head_tree}
 use Rattle.core_tree.specs.declared.tree.Node.{Node}
 use Rattle.core_tree.specs.declared.tree.VarId.{VarId}
-use Rattle.core_tree.specs.Tree.{Trees, trees, tree}
-use Rattle.resolver.specs.declared.header.Header.{Header}
+use Rattle.core_tree.specs.Tree.{Trees, trees, tree, function_tree}
 use Rattle.resolver.specs.declared.definitions.Definition.{Definition}
 use Rattle.resolver.specs.declared.scope.Scope.{Scope}
 use Rattle.resolver.specs.declared.scope.Operator.{Operator}
 use Rattle.resolver.specs.declared.scope.Operator.TheVariants as operator
-use Rattle.resolver.specs.Elaboration.{are_distinct}
-use Rattle.resolver.specs.Elaboration as plain
-
--- the parts of a list; a dotted list is none
-abbrev pub parts_of : Plain → Option Plains
-parts_of (Listed ds) = Some ds
-parts_of _ = None
+use Rattle.resolver.specs.declared.drafts.Draft.{Draft}
+use Rattle.resolver.specs.Drafts as plain
 
 abbrev pub node_trees : List Node → Trees
 node_trees ns = trees (map tree ns)
-
-abbrev pub header_of : Header → plain.Header
-header_of h = record { name = h.name; main = h.main }
 
 abbrev pub definition_of : Definition → plain.Definition
 definition_of d = record { name = d.name.now; params = d.params; body = plain_all d.body.now }
 
 abbrev pub scope_of : Scope → plain.Scope
-scope_of s = record { functions = s.functions.now; params = s.params.now; first = s.first; in_main = s.in_main }
+scope_of s = record { functions = s.functions.now; outside = s.outside.now; params = s.params.now; first = s.first; in_main = s.in_main }
 
 abbrev pub operator_of : Operator → plain.Operator
 operator_of operator.Branch = plain.Branch
-operator_of (operator.Function n) = plain.Function n
+operator_of (operator.Function g) = plain.Function g
 operator_of (operator.Builtin p) = plain.Builtins p
+
+abbrev pub draft_tree : Draft → plain.Draft
+draft_tree d = record { head = head_tree d.head; outside = d.outside; functions = map function_tree d.tops }
 
 -- names of which none stands twice
 abbrev pub distinct : Option (List (List ℕ)) → Option (List (List ℕ))

@@ -1,12 +1,13 @@
+// The definitions of a module, and the names of its functions.
 ghost use Rattle.std.specs.Prelude.{◌≡◌, [], ◌∷◌, ◌++◌, not, if◌then◌else◌, IfOk, Some, map};
 ghost use Rattle.std.specs.Option.{option_map};
 ghost use Rattle.scheme_data.specs.Data.{plain, plain_all};
 ghost use Rattle.name_table.specs.Names.{has_name};
-ghost use Rattle.resolver.specs.Elaboration.{names, prototype, definition, definitions, function_names, has_main};
+ghost use Rattle.resolver.specs.Drafts.{names, prototype, definition, definitions, function_names};
 ghost use Rattle.resolver.specs.Parts.{distinct, definition_of};
 
-use crate::names::{may_be_bound, may_be_defined, name_is};
-use crate::shapes::{is_symbol, parts, symbol};
+use crate::names::{may_be_bound, may_be_defined};
+use module_head::{is_symbol, parts, symbol};
 use name_table::NameTable;
 use scheme_data::{Datum, List, OutOfMemory, Text};
 use std::alloc::Global;
@@ -119,16 +120,4 @@ pub fn function_names(
         }
     }
     Ok(Some(names))
-}
-
-/// Whether the main function is defined and has one parameter.
-pub fn has_main(main: &[u8], ds: &[Definition<'_>]) -> bool
-    ensures { result ≡ has_main main.now (map definition_of ds.now) }
-{
-    for d in ds {
-        if name_is(d.name.as_bytes(), main) {
-            return d.params.len() == 1;
-        }
-    }
-    false
 }

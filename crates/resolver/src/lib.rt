@@ -1,15 +1,19 @@
-//! Makes the tree of a module from its data.
+//! Makes the interface of a module from its data, and with the interfaces of others the tree of the module.
 #![tactic(auto)]
 
+mod agreement;
 mod definitions;
+mod drafts;
 mod functions;
-mod header;
+mod imports;
+mod interfaces;
 mod names;
+mod outside;
 mod resolve;
 mod scope;
-mod shapes;
+mod uses;
 
-pub use resolve::resolve_module;
+pub use resolve::{exported_interface, resolve_module};
 
 #[cfg(test)]
 mod tests;

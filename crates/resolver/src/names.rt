@@ -1,33 +1,13 @@
+// Names of primitives and of special forms, and which names a module may define or bind.
 ghost use Rattle.std.specs.Prelude.{◌≡◌};
 ghost use Rattle.std.specs.List.{list_any};
-ghost use Rattle.resolver.specs.Elaboration.{is_word, begins_type, has_type, is_primitive_name, core_forms, derived_forms, top_forms, is_special, is_defined_name, is_bound_name};
+ghost use Rattle.module_head.specs.Heads.{is_word};
+ghost use Rattle.resolver.specs.Names.{is_primitive_name, core_forms, derived_forms, top_forms, is_special, is_defined_name, is_bound_name};
 
-/// Whether a name is this word.
-pub fn name_is(name: &[u8], word: &[u8]) -> bool
-    ensures { result ≡ is_word name.now word.now }
-{
-    name == word
-}
+use module_head::{name_has_type, name_is};
 
-fn type_begins(rest: &[u8]) -> bool
-    ensures { result ≡ begins_type rest.now }
-{
-    rest.len() >= 2 && rest[0] == b':' && rest[1] == b':'
-}
-
-/// Whether a name has a type, as `x::long`.
-pub fn name_has_type(name: &[u8]) -> bool
-    ensures { result ≡ has_type name.now }
-{
-    for i in 0..name.len() {
-        if type_begins(&name[i..]) {
-            return true;
-        }
-    }
-    false
-}
-
-fn names_primitive(name: &[u8]) -> bool
+/// Whether it is a primitive's name.
+pub fn names_primitive(name: &[u8]) -> bool
     ensures { result ≡ is_primitive_name name.now }
 {
     name_is(name, b"+")
@@ -69,7 +49,8 @@ fn names_top_form(name: &[u8]) -> bool
     name_is(name, b"define") || name_is(name, b"define-inline") || name_is(name, b"define-syntax")
 }
 
-fn names_special_form(name: &[u8]) -> bool
+/// Whether it is the word of a special form.
+pub fn names_special_form(name: &[u8]) -> bool
     ensures { result ≡ is_special name.now }
 {
     names_core_form(name) || names_derived_form(name) || names_top_form(name)

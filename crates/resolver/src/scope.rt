@@ -1,35 +1,39 @@
+// The expressions of a function's body.
 ghost use Rattle.std.specs.Prelude.{◌≡◌, ◌+◌, length, IfOk, Some};
 ghost use Rattle.std.specs.Option.{option_map};
 ghost use Rattle.scheme_data.specs.Data.{plain, plain_all};
 ghost use Rattle.prim_table.specs.Table.{params_of, prim_named};
+ghost use Rattle.name_table.specs.Names.{place_of};
+ghost use Rattle.module_head.specs.Heads.{symbol_of};
 ghost use Rattle.core_tree.specs.Tree.{tree};
-ghost use Rattle.resolver.specs.Elaboration.{symbol_of, place_of, taking, variable, global_operator, operator, branched, applied, expression, expressions, non_empty, body};
+ghost use Rattle.resolver.specs.Drafts.{taking, variable, global_operator, operator, branched, applied, expression, expressions, non_empty, body};
 ghost use Rattle.resolver.specs.Parts.{node_trees, scope_of, operator_of};
 
-use crate::names::name_is;
-use crate::shapes::symbol;
+use crate::names::names_special_form;
 use core_tree::{Const, GlobalRef, Node, VarId};
+use module_head::{name_is, symbol};
 use name_table::NameTable;
 use prim_table::{Primitive, prim_by_name};
 use scheme_data::{Datum, OutOfMemory};
 use sqlite_items::{Boxed, Items};
 use std::alloc::Global;
 
-/// What a function's expressions see: the functions of the module, the function's parameters, the number of the first of these, and whether it is the main function.
+/// What a function's expressions see: the functions of the module, those of other modules that it calls, the function's parameters, the number of the first of these, and whether it is the main function.
 #[derive(Clone, Copy)]
 pub struct Scope<'a> {
     pub alloc: Global,
     pub functions: &'a NameTable,
+    pub outside: &'a NameTable,
     pub params: &'a NameTable,
     pub first: u32,
     pub in_main: bool,
 }
 
-/// What stands first in a form: the word `if`, a function of the module, by its number, or a primitive.
+/// What stands first in a form: the word `if`, a function of this or another module, or a primitive.
 #[derive(Clone, Copy, Debug)]
 pub enum Operator {
     Branch,
-    Function(u32),
+    Function(GlobalRef),
     Builtin(Primitive),
 }
 
@@ -83,7 +87,7 @@ fn form_of(
 {
     match operator {
         Operator::Branch => branch(alloc, parts),
-        Operator::Function(n) => Ok(Some(Node::Call(GlobalRef::Own(n), parts))),
+        Operator::Function(callee) => Ok(Some(Node::Call(callee, parts))),
         Operator::Builtin(p) => Ok(Some(Node::Primitive(p, parts))),
     }
 }
@@ -113,17 +117,22 @@ impl<'a> Scope<'a> {
         Ok(Some(Node::Variable(VarId(number))))
     }
 
-    /// What a name calls that is neither a parameter nor `if`: first the functions, then the primitives.
+    /// What a name calls that is neither a parameter nor a special form: first the functions of the module, then those of other modules, then the primitives.
     fn global(&self, name: &[u8], args: usize) -> Result<Option<Operator>, OutOfMemory>
-        ensures { IfOk result (λ o. option_map operator_of o ≡ global_operator args name.now (place_of name.now self.now.functions.now)) }
+        ensures { IfOk result (λ o. option_map operator_of o ≡ global_operator (scope_of self.now) args name.now (place_of name.now self.now.functions.now)) }
     {
-        let Some(place) = self.functions.position(name) else {
-            return Ok(primitive(name, args).map(Operator::Builtin));
-        };
-        Ok(Some(Operator::Function(number_after(0, place)?)))
+        if let Some(place) = self.functions.position(name) {
+            let callee = GlobalRef::Own(number_after(0, place)?);
+            return Ok(Some(Operator::Function(callee)));
+        }
+        if let Some(place) = self.outside.position(name) {
+            let callee = GlobalRef::Used(number_after(0, place)?);
+            return Ok(Some(Operator::Function(callee)));
+        }
+        Ok(primitive(name, args).map(Operator::Builtin))
     }
 
-    /// What stands first in a form with so many parts after it; none where a parameter does.
+    /// What stands first in a form with so many parts after it; none where a parameter does, or the word of another special form than `if`.
     fn operator(&self, d: &Datum, args: usize) -> Result<Option<Operator>, OutOfMemory>
         ensures { IfOk result (λ o. option_map operator_of o ≡ operator (scope_of self.now) args (symbol_of (plain d.now))) }
     {
@@ -135,6 +144,9 @@ impl<'a> Scope<'a> {
         }
         if name_is(name.as_bytes(), b"if") {
             return Ok(Some(Operator::Branch));
+        }
+        if names_special_form(name.as_bytes()) {
+            return Ok(None);
         }
         self.global(name.as_bytes(), args)
     }

@@ -1,11 +1,17 @@
-use crate::resolve_module;
+ghost use Rattle.std.specs.Prelude.{map, IfOk};
+ghost use Rattle.iface_text.specs.Format.{iface_tree, HasSpelling};
+ghost use Rattle.resolver.specs.Elaboration.{AreSpelled};
+
+use crate::{exported_interface, resolve_module};
+use core_tree::Use;
+use iface_text::{Iface, RowKind, read_iface, write_iface};
 use scheme_data::{OutOfMemory, Text};
 use scheme_read::{ReadErr, read_all};
 
-/// Whether the text is a module.
+/// Whether the text is a module that wants no interfaces.
 fn builds(rt: &HostRuntime, text: &[u8]) -> Result<bool, ReadErr> {
     let data = read_all(rt.alloc(), text)?;
-    Ok(resolve_module(rt.alloc(), data.as_slice())?.is_some())
+    Ok(resolve_module(rt.alloc(), data.as_slice(), &[])?.is_some())
 }
 
 #[test]
@@ -20,6 +26,9 @@ fn modules_are_built(rt: HostRuntime) -> Result<(), ReadErr> {
         b"(module m (main f)) (define (f a) (g 1)) (define (g x) (g (g x)))".as_slice(),
         b"(module m (main f)) (define (f a) (f 1))".as_slice(),
         b"(module m (main f)) (define (f a) 1) (define (g f) f)".as_slice(),
+        b"(module m) (define (f x) x)".as_slice(),
+        b"(module m)".as_slice(),
+        b"(module m (export (f y) (g)) (main f)) (define (g) (f 1)) (define (f x) 1)".as_slice(),
         b"(module m (main f)) (define (f a) (g) (g 1) (g 1 2)) (define (g x) x)".as_slice(),
         b"(module . (m (main f))) (define (f . (a)) . (1))".as_slice(),
         b"; f\n(module m #| (main g) #| |# |# (main f)) (define (f a) 1 ; 2\n) #|)|#".as_slice(),
@@ -33,11 +42,15 @@ fn modules_are_built(rt: HostRuntime) -> Result<(), ReadErr> {
 fn other_forms_are_refused(rt: HostRuntime) -> Result<(), ReadErr> {
     for text in [
         b"".as_slice(),
-        b"(module m) (define (f x) 1)".as_slice(),
+        b"(define (f x) 1)".as_slice(),
         b"(module m (main g)) (define (f x) 1)".as_slice(),
         b"(module m (main f))".as_slice(),
         b"(module m (main f)) (define (f x) 1) 2".as_slice(),
         b"(module m (import f)) (define (f x) 1)".as_slice(),
+        b"(module m (import (f a))) (define (g x) 1)".as_slice(),
+        b"(module m (export (f x))) (define (g x) 1)".as_slice(),
+        b"(module m (export (f x))) (define (f x y) 1)".as_slice(),
+        b"(module m (export (f x) (g x))) (define (f x) 1) (define (g) 1)".as_slice(),
         b"(module m::obj (main f)) (define (f x) 1)".as_slice(),
         b"(module m (main f)) (define f 1)".as_slice(),
         b"(module m (main f)) (define (f x y) 1)".as_slice(),
@@ -190,6 +203,174 @@ fn some_names_are_refused(rt: HostRuntime) -> Result<(), ReadErr> {
         b"1".as_slice(),
     ] {
         assert!(rt; !prototype_builds(&rt, b"f", x)?);
+    }
+    Ok(())
+}
+
+/// The text of a source's interface; none where it isn't by the forms that are built.
+fn interface_text(rt: &HostRuntime, source: &[u8]) -> Result<Option<Text>, ReadErr> {
+    let data = read_all(rt.alloc(), source)?;
+    match exported_interface(rt.alloc(), data.as_slice())? {
+        None => Ok(None),
+        Some(i) => Ok(Some(write_iface(rt.alloc(), &i)?)),
+    }
+}
+
+/// A source, and what it gives.
+#[derive(Clone, Copy)]
+struct Row<'a> {
+    source: &'a [u8],
+    gives: &'a [u8],
+}
+
+#[test]
+fn an_interface_has_a_row_for_each_export_in_clause_order(rt: HostRuntime) -> Result<(), ReadErr> {
+    for row in [
+        Row {
+            source: b"(module a (export (h x y)) (main go) (export (f x) (p))) (define (p) 1) (define (k z) z) (define (f x) x) (define (go a) 1) (define (h x y) y)",
+            gives: b"bigloo-interface 1\nmodule a\nfun h (obj obj) obj\nfun f (obj) obj\nfun p () obj\nend\n",
+        },
+        Row {
+            source: b"(module a) (define (f x) x)",
+            gives: b"bigloo-interface 1\nmodule a\nend\n",
+        },
+        Row {
+            source: b"(module b (import (f a)) (export (g))) (define (g) (f 1))",
+            gives: b"bigloo-interface 1\nmodule b\nfun g () obj\nend\n",
+        },
+    ] {
+        match interface_text(&rt, row.source)? {
+            None => assert!(rt; false),
+            Some(text) => assert_eq!(rt; text.as_bytes(), row.gives),
+        }
+    }
+    Ok(())
+}
+
+#[test]
+fn a_source_that_is_not_built_has_no_interface(rt: HostRuntime) -> Result<(), ReadErr> {
+    for source in [
+        b"(module b (import (newline a))) (define (g) 1)".as_slice(),
+        b"(module b (import (f a) (g + a))) (define (k) 1)".as_slice(),
+        b"(module b (import (f a))) (define (g) (k 1))".as_slice(),
+        b"(module b (import (f a))) (define (g) f)".as_slice(),
+        b"(module b (import (f a))) (define (g f) (f 1))".as_slice(),
+        b"(module b (import (when a))) (define (g) (when 1))".as_slice(),
+        b"(module b (import (f a)) (export (f x))) (define (g) 1)".as_slice(),
+        b"(module b (import (f a)) (main f)) (define (g x) 1)".as_slice(),
+    ] {
+        assert!(rt; interface_text(&rt, source)?.is_none());
+    }
+    Ok(())
+}
+
+/// The interface of a text; want of memory where it is none's.
+fn interface(rt: &HostRuntime, text: &[u8]) -> Result<Iface, OutOfMemory>
+    ensures { IfOk result (λ i. HasSpelling (iface_tree i)) }
+{
+    match read_iface(rt.alloc(), text) {
+        Ok(i) => Ok(i),
+        Err(_) => Err(OutOfMemory),
+    }
+}
+
+/// Uses as ` call MODULE.NAME` or ` need MODULE.NAME`, each with a star for each parameter.
+fn shown(rt: &HostRuntime, uses: &[Use]) -> Result<Text, OutOfMemory> {
+    let mut text = Text::new(rt.alloc());
+    for u in uses {
+        let (word, module_name, row) = match u {
+            Use::From(m, r) => (b" call ".as_slice(), m, r),
+            Use::Need(m, r) => (b" need ".as_slice(), m, r),
+        };
+        text.extend(word)?;
+        text.extend(module_name.as_bytes())?;
+        text.push(b'.')?;
+        text.extend(row.name.as_bytes())?;
+        let RowKind::Fun(params, _) = &row.kind;
+        for _ in params.as_slice() {
+            text.push(b'*')?;
+        }
+    }
+    Ok(text)
+}
+
+/// The uses of a source with these interfaces; none where it isn't built.
+fn uses_of(rt: &HostRuntime, source: &[u8], ifaces: &[Iface]) -> Result<Option<Text>, ReadErr>
+    requires { AreSpelled (map iface_tree ifaces.now) }
+{
+    let data = read_all(rt.alloc(), source)?;
+    match resolve_module(rt.alloc(), data.as_slice(), ifaces)? {
+        None => Ok(None),
+        Some(m) => Ok(Some(shown(rt, m.uses.as_slice())?)),
+    }
+}
+
+const A: &[u8] = b"bigloo-interface 1\nmodule a\nfun f (obj) obj\nfun g (obj obj) obj\nend\n";
+
+const OTHER_A: &[u8] = b"bigloo-interface 1\nmodule a\nfun z () obj\nfun f () obj\nend\n";
+
+const C: &[u8] =
+    b"bigloo-interface 1\nmodule c\nfun h () obj\nfun f (obj obj obj) obj\nfun when (obj) obj\nend\n";
+
+#[test]
+fn uses_are_calls_in_order_of_first_use_and_then_needs(rt: HostRuntime) -> Result<(), ReadErr> {
+    let ifaces = [
+        interface(&rt, A)?,
+        interface(&rt, OTHER_A)?,
+        interface(&rt, C)?,
+    ];
+    for row in [
+        Row {
+            source: b"(module b) (define (go x) x)",
+            gives: b"",
+        },
+        Row {
+            source: b"(module b (import (f g a))) (define (go x) (g (f (g 1 2)) x))",
+            gives: b" call a.g** call a.f*",
+        },
+        Row {
+            source: b"(module b (main go) (import (g f a) (h c))) (define (k) (h)) (define (go x) (f (if 1 (f 2) (k))))",
+            gives: b" call c.h call a.f* need a.g**",
+        },
+        Row {
+            source: b"(module b (import (f f a) (f c) (f a))) (define (go) (f (f 1)))",
+            gives: b" call a.f* need c.f***",
+        },
+        Row {
+            source: b"(module b (import (f a))) (define (go x) (f x)) (define (f y) y)",
+            gives: b" need a.f*",
+        },
+        Row {
+            source: b"(module b (import (f g a))) (define (go f) (g 1 f))",
+            gives: b" call a.g** need a.f*",
+        },
+        Row {
+            source: b"(module b (import (when c))) (define (go) 1)",
+            gives: b" need c.when*",
+        },
+    ] {
+        match uses_of(&rt, row.source, &ifaces)? {
+            None => assert!(rt; false),
+            Some(text) => assert_eq!(rt; text.as_bytes(), row.gives),
+        }
+    }
+    Ok(())
+}
+
+#[test]
+fn an_imported_name_wants_a_row(rt: HostRuntime) -> Result<(), ReadErr> {
+    let ifaces = [
+        interface(&rt, A)?,
+        interface(&rt, OTHER_A)?,
+        interface(&rt, C)?,
+    ];
+    for source in [
+        b"(module b (import (f d))) (define (go) 1)".as_slice(),
+        b"(module b (import (h a))) (define (go) (h))".as_slice(),
+        b"(module b (import (z a))) (define (go) (z))".as_slice(),
+        b"(module b (import (f a) (g c))) (define (go) (f 1))".as_slice(),
+    ] {
+        assert!(rt; uses_of(&rt, source, &ifaces)?.is_none());
     }
     Ok(())
 }

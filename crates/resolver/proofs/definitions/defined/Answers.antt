@@ -1,4 +1,4 @@
-use Rattle.resolver.proofs.Modules.{no_definition_below}
+use Rattle.resolver.proofs.DefinedForms.{no_definition_below}
 use Rattle.resolver.proofs.definitions.defined.Goals as goal
 
 pub returns-in_default-ds : goal.returns-in_default-ds

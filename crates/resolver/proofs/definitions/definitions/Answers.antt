@@ -1,7 +1,7 @@
 use Rattle.std.proofs.Common.{sym, ap, ◌∙◌}
 use Rattle.std.specs.Option.{option_map}
 use Rattle.resolver.specs.Parts.{definition_of}
-use Rattle.resolver.proofs.Modules.{defined_more}
+use Rattle.resolver.proofs.DefinedForms.{defined_more}
 use Rattle.resolver.proofs.definitions.definitions.Goals as goal
 
 pub loop-d-preserved : goal.loop-d-preserved

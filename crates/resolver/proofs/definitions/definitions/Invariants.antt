@@ -1,4 +1,4 @@
-use Rattle.resolver.proofs.Modules.{AreDefined}
+use Rattle.resolver.proofs.DefinedForms.{AreDefined}
 use Rattle.resolver.proofs.definitions.definitions.Given as goal
 
 abbrev pub invariant-loop-d : goal.invariant-loop-d

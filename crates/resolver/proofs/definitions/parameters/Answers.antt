@@ -1,5 +1,5 @@
 use Rattle.std.proofs.Common.{sym, ap, ◌∙◌}
-use Rattle.resolver.specs.Elaboration.{is_bound_name}
+use Rattle.resolver.specs.Names.{is_bound_name}
 use Rattle.resolver.proofs.Tables.{there, absent, inserted, not_bound, read_twice, read_more}
 use Rattle.resolver.proofs.definitions.parameters.Goals as goal
 

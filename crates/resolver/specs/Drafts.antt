@@ -1,0 +1,278 @@
+-- What a source says by itself: its head and its definitions, where each function of another module stands for its place among those that are called, in order of first use.
+use Rattle.std.specs.Prelude.{ℕ, suc, ◌+◌, List, [], ◌∷◌, ◌++◌, map, length, codes, nat_eq, Bool, true, false, not, ◌&&◌, if◌then◌else◌, Option, Some, None}
+use Rattle.std.specs.List.{list_all, list_any}
+use Rattle.scheme_data.specs.Data.{Plain, Number, Truth, Symbol, Listed, Plains, none, more}
+use Rattle.prim_table.specs.declared.primitives.Primitive.{Primitive as Builtin}
+use Rattle.prim_table.specs.Table.{prim_named, params_of}
+use Rattle.name_table.specs.Names.{has_name, place_of}
+use Rattle.iface_text.specs.declared.interface.Row.{Row}
+use Rattle.iface_text.specs.Format.{IfaceTree}
+use Rattle.iface_text.specs.Lines.{untyped_row}
+use Rattle.module_head.specs.Heads.{ImportTree, ExportTree, HeadTree, is_word, symbol_of, says, are_distinct, head_of}
+use Rattle.core_tree.specs.declared.tree.Const.TheVariants.{Int, Bool as Boolean}
+use Rattle.core_tree.specs.declared.tree.VarId.{VarId}
+use Rattle.core_tree.specs.declared.tree.GlobalRef.{GlobalRef}
+use Rattle.core_tree.specs.declared.tree.GlobalRef.TheVariants.{Own, Used}
+use Rattle.core_tree.specs.Tree.{Tree, Constant, Variable, If, Sequence, Call, Primitive, Trees, FunctionTree}
+use Rattle.core_tree.specs.Tree as tree
+use Rattle.resolver.specs.Names.{is_primitive_name, is_special, is_defined_name, is_bound_name}
+
+-- Expressions -------------------------------------------------------------------------------
+
+abbrev pub count : Plains → ℕ
+count none = 0
+count (more d ds) = 1 + count ds
+
+-- what an expression of a function sees: the functions of the module in source order, those of other modules that it calls in order of first use, the function's parameters, the number of its first parameter, and whether it is the main function
+pub record Scope : Type 0 where
+  pub functions : List (List ℕ)
+  pub outside : List (List ℕ)
+  pub params : List (List ℕ)
+  pub first : ℕ
+  pub in_main : Bool
+
+abbrev pub numbered : Bool → ℕ → Option ℕ → Option Tree
+numbered in_main first None = None
+numbered true first (Some n) = None
+numbered false first (Some n) = Some (Variable (record { 0 = first + n }))
+
+-- a parameter's value; the argument list of the main function is none yet
+abbrev pub variable : Scope → Option (List ℕ) → Option Tree
+variable scope None = None
+variable scope (Some name) = numbered scope.in_main scope.first (place_of name scope.params)
+
+-- the primitive, where it takes so many arguments
+abbrev pub taking : ℕ → Option Builtin → Option Builtin
+taking args None = None
+taking args (Some p) = if nat_eq args (length (params_of p)) then Some p else None
+
+-- what stands first in a form: the word `if`, a function of this or another module, or a primitive
+pub data Operator : Type 0 where
+  Branch : Operator
+  Function : GlobalRef → Operator
+  Builtins : Builtin → Operator
+
+abbrev pub primitive_operator : Option Builtin → Option Operator
+primitive_operator None = None
+primitive_operator (Some p) = Some (Builtins p)
+
+abbrev pub outside_operator : ℕ → List ℕ → Option ℕ → Option Operator
+outside_operator args name (Some n) = Some (Function (Used n))
+outside_operator args name None = primitive_operator (taking args (prim_named name))
+
+abbrev pub global_operator : Scope → ℕ → List ℕ → Option ℕ → Option Operator
+global_operator scope args name (Some n) = Some (Function (Own n))
+global_operator scope args name None = outside_operator args name (place_of name scope.outside)
+
+abbrev pub unless_bound : Option ℕ → Option Operator → Option Operator
+unless_bound (Some n) o = None
+unless_bound None o = o
+
+-- of the words of special forms, `if` alone is built
+abbrev pub unless_special : List ℕ → Option Operator → Option Operator
+unless_special name o = if is_word name (codes "if") then Some Branch else (if is_special name then None else o)
+
+-- the operator of a name: no parameter, and first the special forms, then the functions of the module, those of other modules, and the primitives
+abbrev pub operator : Scope → ℕ → Option (List ℕ) → Option Operator
+operator scope args None = None
+operator scope args (Some name) = unless_bound (place_of name scope.params) (unless_special name (global_operator scope args name (place_of name scope.functions)))
+
+-- an `if` has three parts
+abbrev pub branched : Trees → Option Tree
+branched (tree.more a (tree.more b (tree.more c tree.none))) = Some (If a b c)
+branched _ = None
+
+abbrev pub applied : Option Operator → Option Trees → Option Tree
+applied None ts = None
+applied (Some o) None = None
+applied (Some Branch) (Some ts) = branched ts
+applied (Some (Function g)) (Some ts) = Some (Call g ts)
+applied (Some (Builtins p)) (Some ts) = Some (Primitive p ts)
+
+abbrev pub onto : Option Tree → Option Trees → Option Trees
+onto None ts = None
+onto (Some t) None = None
+onto (Some t) (Some ts) = Some (tree.more t ts)
+
+module _ (scope : Scope) where
+  -- a number or a truth value, a parameter, an `if`, or a call by name; no other constant is one yet
+  abbrev mutual
+    pub expression : Plain → Option Tree
+    expression (Number n) = Some (Constant (Int n))
+    expression (Truth b) = Some (Constant (Boolean b))
+    expression (Symbol name mark) = variable scope (Some name)
+    expression (Listed none) = None
+    expression (Listed (more d ds)) = applied (operator scope (count ds) (symbol_of d)) (expressions ds)
+    expression _ = None
+
+    -- all of them, where each is an expression
+    pub expressions : Plains → Option Trees
+    expressions none = Some tree.none
+    expressions (more d ds) = onto (expression d) (expressions ds)
+
+abbrev pub non_empty : Option Trees → Option Tree
+non_empty None = None
+non_empty (Some tree.none) = None
+non_empty (Some (tree.more t ts)) = Some (Sequence (tree.more t ts))
+
+-- one expression or more
+abbrev pub body : Scope → Plains → Option Tree
+body scope ds = non_empty (expressions scope ds)
+
+-- Forms -------------------------------------------------------------------------------------
+
+-- the name and the parameters of `(g x ...)`, and the body
+pub record Definition : Type 0 where
+  pub name : List ℕ
+  pub params : List (List ℕ)
+  pub body : Plains
+
+abbrev pub onto_names : Option (List ℕ) → Option (List (List ℕ)) → Option (List (List ℕ))
+onto_names None names = None
+onto_names (Some x) None = None
+onto_names (Some x) (Some xs) = if is_bound_name x then Some (x ∷ xs) else None
+
+-- names that may be bound
+abbrev pub names : Plains → Option (List (List ℕ))
+names none = Some []
+names (more d ds) = onto_names (symbol_of d) (names ds)
+
+abbrev pub named : Option (List ℕ) → Option (List (List ℕ)) → Plains → Option Definition
+named (Some f) (Some xs) ds = if is_defined_name f && are_distinct xs then Some (record { name = f; params = xs; body = ds }) else None
+named _ _ ds = None
+
+abbrev pub prototype : Plain → Plains → Option Definition
+prototype (Listed (more f xs)) ds = named (symbol_of f) (names xs) ds
+prototype _ ds = None
+
+abbrev pub definition : Plain → Option Definition
+definition (Listed (more word (more d ds))) = if says (symbol_of word) (codes "define") then prototype d ds else None
+definition _ = None
+
+abbrev pub onto_definitions : Option Definition → Option (List Definition) → Option (List Definition)
+onto_definitions None ds = None
+onto_definitions (Some d) None = None
+onto_definitions (Some d) (Some ds) = Some (d ∷ ds)
+
+abbrev pub definitions : Plains → Option (List Definition)
+definitions none = Some []
+definitions (more d ds) = onto_definitions (definition d) (definitions ds)
+
+-- variables are numbered through the module, in source order
+abbrev pub variables : ℕ → List (List ℕ) → List VarId
+variables first [] = []
+variables first (x ∷ xs) = record { 0 = first } ∷ variables (suc first) xs
+
+abbrev pub defined : ℕ → Definition → Option Tree → Option FunctionTree
+defined first d None = None
+defined first d (Some t) = Some (record { name = d.name; params = variables first d.params; body = t })
+
+abbrev pub onto_functions : Option FunctionTree → Option (List FunctionTree) → Option (List FunctionTree)
+onto_functions None fs = None
+onto_functions (Some f) None = None
+onto_functions (Some f) (Some fs) = Some (f ∷ fs)
+
+-- the functions of the definitions, in a module with these functions, which calls these of other modules
+module _ (all outside : List (List ℕ)) (main : Option (List ℕ)) where
+  abbrev pub scope_of : ℕ → Definition → Scope
+  scope_of first d = record { functions = all; outside = outside; params = d.params; first = first; in_main = says main d.name }
+
+  abbrev pub functions : ℕ → List Definition → Option (List FunctionTree)
+  functions first [] = Some []
+  functions first (d ∷ ds) = onto_functions (defined first d (body (scope_of first d) d.body)) (functions (first + length d.params) ds)
+
+abbrev pub function_names : List Definition → List (List ℕ)
+function_names ds = map (λ d. d.name) ds
+
+-- Functions of other modules ----------------------------------------------------------------
+
+abbrev pub imported_names : List ImportTree → List (List ℕ)
+imported_names [] = []
+imported_names (i ∷ is) = i.names ++ imported_names is
+
+-- in a module with these imported names and these functions, below these parameters
+module _ (imported all params : List (List ℕ)) where
+  -- the name that stands first in a form is that of another module's function
+  abbrev pub is_outside : List ℕ → Bool
+  is_outside name = (not (has_name params name) && not (is_special name)) && (not (has_name all name) && has_name imported name)
+
+  abbrev pub outside_name : Option (List ℕ) → List (List ℕ)
+  outside_name None = []
+  outside_name (Some name) = if is_outside name then name ∷ [] else []
+
+  abbrev mutual
+    -- such names, as they stand in a form from left to right
+    pub outside_in : Plain → List (List ℕ)
+    outside_in (Listed (more d ds)) = outside_name (symbol_of d) ++ outside_in_all ds
+    outside_in _ = []
+
+    pub outside_in_all : Plains → List (List ℕ)
+    outside_in_all none = []
+    outside_in_all (more d ds) = outside_in d ++ outside_in_all ds
+
+abbrev pub outside_in_definitions : List (List ℕ) → List (List ℕ) → List Definition → List (List ℕ)
+outside_in_definitions imported all [] = []
+outside_in_definitions imported all (d ∷ ds) = outside_in_all imported all d.params d.body ++ outside_in_definitions imported all ds
+
+-- each name once, in order of first sight, after those that were seen
+abbrev pub with_first : List (List ℕ) → List (List ℕ) → List (List ℕ)
+with_first seen [] = seen
+with_first seen (x ∷ xs) = with_first (if has_name seen x then seen else seen ++ x ∷ []) xs
+
+-- the names of other modules' functions that are called, in order of first use
+abbrev pub outside_of : HeadTree → List Definition → List (List ℕ)
+outside_of h ds = with_first [] (outside_in_definitions (imported_names h.imports) (function_names ds) ds)
+
+-- Sources -----------------------------------------------------------------------------------
+
+abbrev pub definition_named : List Definition → List ℕ → Option Definition
+definition_named [] name = None
+definition_named (d ∷ ds) name = if is_word d.name name then Some d else definition_named ds name
+
+abbrev pub takes_as_many : ℕ → Option Definition → Bool
+takes_as_many n None = false
+takes_as_many n (Some d) = nat_eq (length d.params) n
+
+-- an exported function is defined with as many parameters
+abbrev pub is_there : List Definition → ExportTree → Bool
+is_there ds e = takes_as_many e.count (definition_named ds e.name)
+
+-- the main function, if there is one, is defined with one parameter
+abbrev pub has_main : Option (List ℕ) → List Definition → Bool
+has_main None ds = true
+has_main (Some f) ds = takes_as_many 1 (definition_named ds f)
+
+-- no primitive is imported, no function is defined twice, and those that the head names are there
+abbrev pub agrees : HeadTree → List Definition → Bool
+agrees h ds = (not (list_any is_primitive_name (imported_names h.imports)) && are_distinct (function_names ds)) && (list_all (is_there ds) h.exports && has_main h.main ds)
+
+pub record Draft : Type 0 where
+  pub head : HeadTree
+  pub outside : List (List ℕ)
+  pub functions : List FunctionTree
+
+abbrev pub draft_with : HeadTree → List (List ℕ) → Option (List FunctionTree) → Option Draft
+draft_with h outside None = None
+draft_with h outside (Some fs) = Some (record { head = h; outside = outside; functions = fs })
+
+abbrev pub draft_of : Option HeadTree → Option (List Definition) → Option Draft
+draft_of (Some h) (Some ds) = if agrees h ds then draft_with h (outside_of h ds) (functions (function_names ds) (outside_of h ds) h.main 0 ds) else None
+draft_of _ _ = None
+
+unfoldable pub draft : Plains → Option Draft
+draft none = None
+draft (more d ds) = draft_of (head_of d) (definitions ds)
+
+-- Exports -----------------------------------------------------------------------------------
+
+-- a row for each function that is exported, in clause order
+abbrev pub exported_rows : HeadTree → List Row
+exported_rows h = map (λ e. untyped_row e.name e.count) h.exports
+
+abbrev pub interface_of : Option Draft → Option IfaceTree
+interface_of None = None
+interface_of (Some d) = Some (record { module_name = d.head.name; rows = exported_rows d.head })
+
+-- the interface of a source, which nothing but the source decides
+abbrev pub exported : Plains → Option IfaceTree
+exported forms = interface_of (draft forms)

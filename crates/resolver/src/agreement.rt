@@ -1,0 +1,64 @@
+// Whether a module's definitions are those that its head asks for.
+ghost use Rattle.std.specs.Prelude.{◌≡◌, Some, map};
+ghost use Rattle.std.specs.List.{list_all};
+ghost use Rattle.module_head.specs.Trees.{export_tree, head_tree};
+ghost use Rattle.resolver.specs.Drafts.{function_names, definition_named, takes_as_many, is_there, has_main, agrees};
+ghost use Rattle.resolver.specs.Parts.{definition_of, distinct};
+
+use crate::definitions::Definition;
+use crate::imports::import_primitive;
+use module_head::{Export, Head};
+use name_table::NameTable;
+use scheme_data::Text;
+
+/// The definitions of a module, and their names in the same order, of which none stands twice.
+#[derive(Clone, Copy)]
+pub struct Defined<'a> {
+    pub definitions: &'a [Definition<'a>],
+    pub names: &'a NameTable,
+    pub ghost listed: { Some names.now ≡ distinct (Some (function_names (map definition_of definitions.now))) },
+}
+
+impl Defined<'_> {
+    /// Whether a function of this name is defined with so many parameters.
+    fn takes_as_many(&self, count: usize, name: &[u8]) -> bool
+        ensures { result ≡ takes_as_many count (definition_named (map definition_of self.now.definitions.now) name.now) }
+    {
+        match self.names.position(name) {
+            None => false,
+            Some(place) => self.definitions[place].params.len() == count,
+        }
+    }
+
+    /// Whether each function that is exported is defined with as many parameters.
+    fn has_exports(&self, exports: &[Export]) -> bool
+        ensures { result ≡ list_all (is_there (map definition_of self.now.definitions.now)) (map export_tree exports.now) }
+    {
+        for export in exports {
+            if !self.takes_as_many(export.count, export.name.as_bytes()) {
+                return false;
+            }
+        }
+        true
+    }
+
+    /// Whether the main function, if there is one, is defined with one parameter.
+    fn has_main(&self, main: &Option<Text>) -> bool
+        ensures { result ≡ has_main main.now (map definition_of self.now.definitions.now) }
+    {
+        match main {
+            None => true,
+            Some(name) => self.takes_as_many(1, name.as_bytes()),
+        }
+    }
+
+    /// Whether no primitive is imported, and the functions that the head names are there.
+    pub fn agrees(&self, head: &Head) -> bool
+        ensures { result ≡ agrees (head_tree head.now) (map definition_of self.now.definitions.now) }
+    {
+        if import_primitive(head.imports.as_slice()) {
+            return false;
+        }
+        self.has_exports(head.exports.as_slice()) && self.has_main(&head.main)
+    }
+}

@@ -1,0 +1,95 @@
+// The names of other modules' functions that a module calls.
+ghost use Rattle.std.specs.Prelude.{◌≡◌, [], map, IfOk};
+ghost use Rattle.scheme_data.specs.Data.{plain, plain_all};
+ghost use Rattle.module_head.specs.Heads.{symbol_of};
+ghost use Rattle.module_head.specs.Trees.{import_tree};
+ghost use Rattle.resolver.specs.Drafts.{imported_names, is_outside, outside_name, outside_in, outside_in_all, outside_in_definitions, with_first};
+ghost use Rattle.resolver.specs.Parts.{definition_of};
+
+use crate::definitions::Definition;
+use crate::imports::imported_names;
+use crate::names::names_special_form;
+use module_head::{Import, symbol};
+use name_table::NameTable;
+use scheme_data::{Datum, OutOfMemory};
+use std::alloc::Global;
+
+/// What decides which names in a body are of other modules' functions: the names that are imported, the functions of the module, and the function's parameters.
+#[derive(Clone, Copy)]
+struct Outside<'a> {
+    imported: &'a NameTable,
+    functions: &'a NameTable,
+    params: &'a NameTable,
+}
+
+impl Outside<'_> {
+    /// Whether a name that stands first in a form is that of another module's function.
+    fn has(&self, name: &[u8]) -> bool
+        ensures { result ≡ is_outside self.now.imported.now self.now.functions.now self.now.params.now name.now }
+    {
+        !self.params.contains(name)
+            && !names_special_form(name)
+            && !self.functions.contains(name)
+            && self.imported.contains(name)
+    }
+
+    /// Puts what stands first in a form at the end of a table, where it is such a name and isn't there yet.
+    fn add(&self, d: &Datum, names: &mut NameTable) -> Result<(), OutOfMemory>
+        ensures { IfOk result (λ done. names.new ≡ with_first names.old (outside_name self.now.imported.now self.now.functions.now self.now.params.now (symbol_of (plain d.now)))) }
+    {
+        let Some(name) = symbol(d) else {
+            return Ok(());
+        };
+        if self.has(name.as_bytes()) {
+            names.insert(name.as_bytes())?;
+        }
+        Ok(())
+    }
+
+    /// Puts the names in a form at the end of a table, from left to right, each where it isn't there yet.
+    #[cycle(collect)]
+    fn collect(&self, d: &Datum, names: &mut NameTable) -> Result<(), OutOfMemory>
+        ensures { IfOk result (λ done. names.new ≡ with_first names.old (outside_in self.now.imported.now self.now.functions.now self.now.params.now (plain d.now))) }
+    {
+        let Datum::List(_, ds) = d else {
+            return Ok(());
+        };
+        let [first, args @ ..] = ds.as_slice() else {
+            return Ok(());
+        };
+        self.add(first, names)?;
+        self.collect_all(args, names)
+    }
+
+    #[cycle(collect)]
+    fn collect_all(&self, ds: &[Datum], names: &mut NameTable) -> Result<(), OutOfMemory>
+        ensures { IfOk result (λ done. names.new ≡ with_first names.old (outside_in_all self.now.imported.now self.now.functions.now self.now.params.now (plain_all ds.now))) }
+    {
+        for d in ds {
+            self.collect(d, names)?;
+        }
+        Ok(())
+    }
+}
+
+/// The names of other modules' functions that the definitions call, in order of first use, with these imports and these functions of the module.
+pub fn outside_names(
+    alloc: Global,
+    imports: &[Import],
+    functions: &NameTable,
+    definitions: &[Definition<'_>],
+) -> Result<NameTable, OutOfMemory>
+    ensures { IfOk result (λ names. names ≡ with_first [] (outside_in_definitions (imported_names (map import_tree imports.now)) functions.now (map definition_of definitions.now))) }
+{
+    let imported = imported_names(alloc, imports)?;
+    let mut names = NameTable::new(alloc);
+    for d in definitions {
+        let outside = Outside {
+            imported: &imported,
+            functions,
+            params: &d.params,
+        };
+        outside.collect_all(d.body, &mut names)?;
+    }
+    Ok(names)
+}
