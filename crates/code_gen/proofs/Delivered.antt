@@ -24,7 +24,7 @@ use Rattle.code_gen.specs.declared.emitter.Emitter.{Emitter}
 use Rattle.code_gen.specs.declared.emitter.Held.{Held}
 use Rattle.code_gen.specs.declared.emitter.Place.{Place as Target}
 use Rattle.code_gen.specs.Settings.{Setting, scope_in, TrIn}
-use Rattle.code_gen.specs.Emission.{place_of, piece_to, AreBelow, Puts, Emits, Stores, Gives, IsTested, IsPrimitiveCall, IsCounted, IsMiscounted, IsOwnCall, Delivered, IsDelivered, GivesWord}
+use Rattle.code_gen.specs.Emission.{place_of, piece_to, AreBelow, Puts, Emits, Stores, Gives, IsTested, IsPrimitiveCall, IsCounted, IsMiscounted, IsFunctionCall, Delivered, IsDelivered, GivesWord}
 use Rattle.code_gen.proofs.Counts.{below_more, fresh_at}
 use Rattle.code_gen.proofs.Steps.{Means, then, weaker, deliver_emits, Chosen, blocks}
 use Rattle.code_gen.proofs.Related.{tr_constant, tr_variable, variable_has, tr_if, tr_primitive, tr_counted, tr_miscounted}
@@ -122,7 +122,7 @@ module _ (w : Setting) where
             (b live (below_more s.next t.next live started below))));
       }
 
-  pub delivered_counted : (s t u : Emitter) (g : GlobalRef) (ns : Trees) (c : CCall) (to : Target) → IsOwnCall w s t g ns (Some c) → Puts t u (piece_to to (expr.Call c)) → IsDelivered w s u (Call g ns) to
+  pub delivered_counted : (s t u : Emitter) (g : GlobalRef) (ns : Trees) (c : CCall) (to : Target) → IsFunctionCall w s t g ns (Some c) → Puts t u (piece_to to (expr.Call c)) → IsDelivered w s u (Call g ns) to
   delivered_counted s t u g ns c to called puts =
       let is : IsCounted w s t called.callee ns c = called.written in
       record {
@@ -132,7 +132,7 @@ module _ (w : Setting) where
             tr_counted w vars g called.callee ns live called.found is.args (place_of to) code middle rest is.counted (a live below) (b ∙ ap (λ d. deliver (place_of to) (expr.Call d) rest) is.is));
       }
 
-  pub delivered_miscounted : (s t : Emitter) (g : GlobalRef) (ns : Trees) (to : Target) → IsOwnCall w s t g ns None → IsDelivered w s t (Call g ns) to
+  pub delivered_miscounted : (s t : Emitter) (g : GlobalRef) (ns : Trees) (to : Target) → IsFunctionCall w s t g ns None → IsDelivered w s t (Call g ns) to
   delivered_miscounted s t g ns to called =
       let is : IsMiscounted w s t called.callee ns = called.written in
       record {

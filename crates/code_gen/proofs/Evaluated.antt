@@ -1,12 +1,12 @@
 -- The value of each node is put into a new local, and each call is written.
-use Rattle.std.proofs.Common.{◌≡◌, ℕ, suc, ◌≤◌, List, length, true, false, Some, None, refl, sym, ap, ◌∙◌, subst, arith}
+use Rattle.std.proofs.Common.{◌≡◌, ℕ, suc, ◌≤◌, List, true, false, Some, None, refl, sym, ap, ◌∙◌, subst, arith}
 use Rattle.prim_table.specs.declared.primitives.Ty.{Ty}
 use Rattle.prim_table.specs.declared.primitives.Primitive.{Primitive as Builtin}
 use Rattle.prim_table.specs.Table.{params_of, result_of}
 use Rattle.core_tree.specs.declared.tree.Const.{Const}
 use Rattle.core_tree.specs.declared.tree.VarId.{VarId}
 use Rattle.core_tree.specs.declared.tree.GlobalRef.{GlobalRef}
-use Rattle.core_tree.specs.Tree.{Tree, Constant, Variable, If, Call, Primitive, Trees, FunctionTree, function_of}
+use Rattle.core_tree.specs.Tree.{Tree, Constant, Variable, If, Call, Primitive, Trees, Callee, callee_of}
 use Rattle.c_tree.specs.declared.tree.CArg.{CArg}
 use Rattle.c_tree.specs.declared.tree.CAtom.TheVariants as atom
 use Rattle.c_tree.specs.declared.tree.CCall.{CCall}
@@ -14,16 +14,16 @@ use Rattle.c_tree.specs.declared.tree.CExpr.{CExpr}
 use Rattle.c_tree.specs.declared.tree.CExpr.TheVariants as expr
 use Rattle.c_tree.specs.declared.pieces.Piece.TheVariants as piece
 use Rattle.c_tree.specs.Code.{assign, call}
-use Rattle.c_tree.specs.Names.{local_name, function_name}
+use Rattle.c_tree.specs.Names.{local_name}
 use Rattle.plan_rules.specs.declared.rep.Rep.{Rep}
 use Rattle.plan_rules.specs.declared.rep.Rep.TheVariants.{Obj, Bool as Truth_rep}
 use Rattle.plan_rules.specs.Representation.{PlainAt, slot_of, rep_of, c_type_of, constant_rep, constant_expr, condition, call_of, raise_count}
-use Rattle.plan_rules.specs.Translation.{Name, IsLocal, into, Miscounted, objects, is_counted}
+use Rattle.plan_rules.specs.Translation.{Name, IsLocal, into, Miscounted, objects, is_counted, c_name_of}
 use Rattle.code_gen.specs.declared.emitter.Emitter.{Emitter}
 use Rattle.code_gen.specs.declared.emitter.Held.{Held}
 use Rattle.code_gen.specs.declared.emitter.Place.TheVariants.{Into}
 use Rattle.code_gen.specs.Settings.{Setting, scope_in, TrIn, TrArgumentsIn}
-use Rattle.code_gen.specs.Emission.{held_names, AreBelow, Puts, Stores, LeavesUnset, Gives, IsValue, IsTested, IsDelivered, AreArguments, AreReady, IsReady, IsPrimitiveCall, IsCounted, IsMiscounted, IsOwnCall}
+use Rattle.code_gen.specs.Emission.{held_names, AreBelow, Puts, Stores, LeavesUnset, Gives, IsValue, IsTested, IsDelivered, AreArguments, AreReady, IsReady, IsPrimitiveCall, IsCounted, IsMiscounted, IsFunctionCall}
 use Rattle.code_gen.proofs.Counts.{below_more, fresh_at}
 use Rattle.code_gen.proofs.Steps.{Means, same, then, call_emits}
 use Rattle.code_gen.proofs.Values.{value_stored, value_unset}
@@ -34,9 +34,9 @@ module _ (w : Setting) where
   Ready next types ns args vars code rest = (live : List Name) → AreBelow next live → AreReady w types ns live args vars code rest
 
   -- the arguments are evaluated and the error is raised
-  abbrev pub Raised : ℕ → FunctionTree → Trees → Means
+  abbrev pub Raised : ℕ → Callee → Trees → Means
   Raised next f ns vars code rest =
-      (live : List Name) → AreBelow next live → Miscounted vars (λ temporaries code middle. TrArgumentsIn w vars (objects ns) ns live temporaries code middle) (length f.params) code rest
+      (live : List Name) → AreBelow next live → Miscounted vars (λ temporaries code middle. TrArgumentsIn w vars (objects ns) ns live temporaries code middle) f.params code rest
 
   pub value_constant : (s u : Emitter) (k : Const) (wanted h : Rep) (e : CExpr) (held : Held) → constant_expr k (constant_rep k wanted) ≡ Some e → h ≡ constant_rep k wanted → Stores s u h e held
       → IsValue w s u (Constant k) wanted held
@@ -59,7 +59,7 @@ module _ (w : Setting) where
       (λ vars live below code middle rest a b.
       tr_primitive w vars p ns h live called.args (into (local_name held.local)) code middle rest h_is (a live below) (b ∙ ap (λ d. assign (local_name held.local) (expr.Call d) rest) called.is))
 
-  pub value_counted : (s t u : Emitter) (g : GlobalRef) (ns : Trees) (wanted : Rep) (c : CCall) (held : Held) → IsOwnCall w s t g ns (Some c)
+  pub value_counted : (s t u : Emitter) (g : GlobalRef) (ns : Trees) (wanted : Rep) (c : CCall) (held : Held) → IsFunctionCall w s t g ns (Some c)
       → Stores t u Obj (expr.Call c) held → IsValue w s u (Call g ns) wanted held
   value_counted s t u g ns wanted c held called stored =
       let is : IsCounted w s t called.callee ns c = called.written in
@@ -68,13 +68,13 @@ module _ (w : Setting) where
       tr_counted w vars g called.callee ns live called.found is.args (into (local_name held.local)) code middle rest is.counted (a live below)
       (b ∙ ap (λ d. assign (local_name held.local) (expr.Call d) rest) is.is))
 
-  pub value_miscounted : (s t u : Emitter) (g : GlobalRef) (ns : Trees) (wanted : Rep) (held : Held) → IsOwnCall w s t g ns None → LeavesUnset t u Obj held → IsValue w s u (Call g ns) wanted held
+  pub value_miscounted : (s t u : Emitter) (g : GlobalRef) (ns : Trees) (wanted : Rep) (held : Held) → IsFunctionCall w s t g ns None → LeavesUnset t u Obj held → IsValue w s u (Call g ns) wanted held
   value_miscounted s t u g ns wanted held called unset =
       let is : IsMiscounted w s t called.callee ns = called.written in
       value_unset w s t u (Raised s.next called.callee ns) (Call g ns) wanted Obj held is.emits unset refl
       (λ vars live below code middle rest a b.
       tr_miscounted w vars g called.callee ns live called.found (into (local_name held.local)) code rest is.counted
-      (subst (λ k. Miscounted vars (λ temporaries code middle. TrArgumentsIn w vars (objects ns) ns live temporaries code middle) (length called.callee.params) code k) b (a live below)))
+      (subst (λ k. Miscounted vars (λ temporaries code middle. TrArgumentsIn w vars (objects ns) ns live temporaries code middle) called.callee.params code k) b (a live below)))
 
   -- the local is there before the blocks that put a word into it
   pub value_chosen : (s t u : Emitter) (a b c : Tree) (wanted : Rep) (held : Held) → LeavesUnset s t Obj held → IsDelivered w t u (If a b c) (Into held.local) → IsValue w s u (If a b c) wanted held
@@ -105,17 +105,17 @@ module _ (w : Setting) where
 
   -- Calls -----------------------------------------------------------------------------------
 
-  pub own_counted : (s t : Emitter) (g : GlobalRef) (f : FunctionTree) (ns : Trees) (name : Name) (args : List CArg) → function_of w.functions g ≡ Some f → is_counted f ns ≡ true
-      → IsReady w s t (objects ns) ns args → name ≡ function_name w.module_name f.name → IsOwnCall w s t g ns (Some (call_of name args))
-  own_counted s t g f ns name args found right ready name_is = record {
+  pub call_counted : (s t : Emitter) (g : GlobalRef) (f : Callee) (ns : Trees) (name : Name) (args : List CArg) → callee_of w.in_module g ≡ Some f → is_counted f ns ≡ true
+      → IsReady w s t (objects ns) ns args → name ≡ c_name_of f → IsFunctionCall w s t g ns (Some (call_of name args))
+  call_counted s t g f ns name args found right ready name_is = record {
     callee = f;
     found = found;
     written = record { args = args; counted = right; is = ap (λ n. call_of n args) name_is; ready = ready };
   }
 
-  pub own_miscounted : (s t u : Emitter) (g : GlobalRef) (f : FunctionTree) (ns : Trees) (held : List Held) (c : CCall) → function_of w.functions g ≡ Some f → is_counted f ns ≡ false
-      → AreArguments w s t (objects ns) ns held → c ≡ raise_count (length f.params) → Puts t u (piece.Call c) → IsOwnCall w s u g ns None
-  own_miscounted s t u g f ns held c found wrong a c_is puts = record {
+  pub call_miscounted : (s t u : Emitter) (g : GlobalRef) (f : Callee) (ns : Trees) (held : List Held) (c : CCall) → callee_of w.in_module g ≡ Some f → is_counted f ns ≡ false
+      → AreArguments w s t (objects ns) ns held → c ≡ raise_count f.params → Puts t u (piece.Call c) → IsFunctionCall w s u g ns None
+  call_miscounted s t u g f ns held c found wrong a c_is puts = record {
     callee = f;
     found = found;
     written = record {

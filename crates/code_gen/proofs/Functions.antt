@@ -1,24 +1,24 @@
 -- A function that was written: its variables, and what its statements rest on.
-use Rattle.std.proofs.Common.{◌≡◌, ℕ, suc, ◌+◌, ◌≤◌, ◌^◌, Bool, true, false, List, [], ◌∷◌, ◌++◌, length, map, Option, Some, refl, sym, ap, ◌∙◌, subst, arith}
+use Rattle.std.proofs.Common.{◌≡◌, ℕ, suc, ◌+◌, ◌≤◌, ◌^◌, Bool, true, false, List, [], ◌∷◌, ◌++◌, length, map, replicate, Option, Some, refl, sym, ap, ◌∙◌, subst, arith}
 use Rattle.std.specs.Prelude.{if◌then◌else◌, IsTrue}
 use Rattle.std.proofs.lemmas.Bool.{and_from}
 use Rattle.std.proofs.lemmas.List.{append-nil}
 use Rattle.core_tree.specs.declared.tree.VarId.{VarId}
-use Rattle.core_tree.specs.Tree.{Tree, Constant, Variable, If, Sequence, Call, Primitive, none, more, FunctionTree, ModuleTree}
+use Rattle.core_tree.specs.Tree.{Tree, Constant, Variable, If, Sequence, Call, Primitive, none, more, FunctionTree, ModuleTree, Callee, own_callee}
 use Rattle.core_tree.specs.WellFormed.{same_variable, IsFunction, IsWellFormed}
 use Rattle.c_tree.specs.declared.tree.CTy.TheVariants as c_ty
 use Rattle.c_tree.specs.declared.tree.CVar.{CVar}
 use Rattle.c_tree.specs.declared.pieces.Piece.TheVariants as piece
 use Rattle.c_tree.specs.Code.{Code, done, loop, Fun, defined}
-use Rattle.c_tree.specs.Names.{local_name, label_name, function_name, is_function_name, is_main}
+use Rattle.c_tree.specs.Names.{local_name, label_name, function_name, is_function_name}
 use Rattle.c_tree.specs.Pieces.{pieces}
 use Rattle.c_tree.specs.Spelling.{NamedVars, NamedCode, NamedItem}
-use Rattle.c_tree.proofs.NameShapes.{function_name_not_main, is_label_name-label_name}
-use Rattle.c_meaning.specs.Checked.{Signature, signature_of, variables_of, are_distinct, code_fits, is_looped, is_main_function, function_fits}
+use Rattle.c_tree.proofs.NameShapes.{is_label_name-label_name}
+use Rattle.c_meaning.specs.Checked.{Signature, signature_of, variables_of, are_distinct, code_fits, Function, role_of, is_looped, has_shape, function_fits}
 use Rattle.plan_rules.specs.declared.rep.Rep.{Rep}
 use Rattle.plan_rules.specs.declared.rep.Rep.TheVariants.{Obj}
 use Rattle.plan_rules.specs.Representation.{Slot, PlainAt, slot_of, c_type_of}
-use Rattle.plan_rules.specs.Translation.{Name, IsLocal, back, scope_of, Tr, TrFunction}
+use Rattle.plan_rules.specs.Translation.{Name, IsLocal, back, scope_of, c_name_of, callees, Tr, TrFunction}
 use Rattle.code_gen.specs.declared.emitter.Emitter.{Emitter}
 use Rattle.code_gen.specs.Scopes.{words, scope_from}
 use Rattle.code_gen.specs.Settings.{Setting, IsBodyIn, TrIn}
@@ -26,8 +26,9 @@ use Rattle.code_gen.specs.Emission.{AreBelow, AreCounted, AreLocals, IsFresh, Pu
 use Rattle.code_gen.proofs.Counts.{below_none, below_one}
 use Rattle.code_gen.proofs.Steps.{grows_then, put_grows, put_front}
 use Rattle.code_gen.proofs.Variables.{counted_distinct, counted_locals, counted_named, local_named}
+use Rattle.code_gen.proofs.Roles.{function_role}
 use Rattle.code_gen.proofs.Soundness.{signature, Grounds, Fine, fine_done, fine_last}
-use Rattle.code_gen.proofs.Declared.{Within, called, is_function, named_function, signed}
+use Rattle.code_gen.proofs.Declared.{Within, called, callees_distinct, callees_named, named_at, named_function, signed}
 
 -- Parameters --------------------------------------------------------------------------------
 
@@ -145,10 +146,6 @@ function_written m f e g looped name_is result params locals code_is =
       translated = subst (λ vs. TrIn (setting_of m f) (variables_with f.params vs) f.body Obj (word_names f.params) back looped.code done) (sym locals) looped.translated;
     }
 
-pub setting_same : (m : ModuleTree) (f : FunctionTree) (functions : List FunctionTree) (params : List VarId) → functions ≡ m.functions → params ≡ f.params
-    → ◌≡◌ {A = Setting} (record { module_name = m.name; functions = functions; params = params }) (setting_of m f)
-setting_same m f functions params e g = cc
-
 -- Its statements ----------------------------------------------------------------------------
 
 whole_body : (w : Setting) (vars : List CVar) (b : Tree) (live : List Name) (code : Code) → IsBodyIn w b → TrIn w vars b Obj live back code done → TrIn w vars (Sequence (more b none)) Obj live back code done
@@ -171,46 +168,50 @@ fine_body w sigs vars grounds (Sequence (more n ns)) live code h t = fine_last w
 fine_body w sigs vars grounds (Call g ns) live code h t = absurd h
 fine_body w sigs vars grounds (Primitive p ns) live code h t = absurd h
 
-looped_fits : (sigs : List Signature) (g : Fun) (l : Name) (body : Code) → is_main g.name ≡ false → are_distinct (map (λ v. v.name) (variables_of g)) ≡ true → g.result ≡ c_ty.Obj → g.code ≡ loop l body done
+looped_fits : (sigs : List Signature) (g : Fun) (l : Name) (body : Code) → role_of g.name ≡ Function → are_distinct (map (λ v. v.name) (variables_of g)) ≡ true → g.result ≡ c_ty.Obj → g.code ≡ loop l body done
     → code_fits sigs (variables_of g) c_ty.Obj body ≡ true → function_fits sigs g ≡ true
-looped_fits sigs g l body not_main distinct result code_is fits =
+looped_fits sigs g l body role distinct result code_is fits =
     let vars = variables_of g in
-    let loops : (if is_main g.name then is_main_function sigs g else is_looped sigs vars g.result g.code) ≡ true =
-    ap (λ b. if b then is_main_function sigs g else is_looped sigs vars g.result g.code) not_main
-    ∙ ap (λ r. is_looped sigs vars r g.code) result ∙ ap (is_looped sigs vars c_ty.Obj) code_is ∙ fits in
-    and_from (are_distinct (map (λ v. v.name) vars)) (if is_main g.name then is_main_function sigs g else is_looped sigs vars g.result g.code) distinct loops
+    let loops : has_shape sigs (role_of g.name) g ≡ true =
+    ap (λ r. has_shape sigs r g) role ∙ ap (λ t. is_looped sigs vars t g.code) result ∙ ap (is_looped sigs vars c_ty.Obj) code_is ∙ fits in
+    and_from (are_distinct (map (λ v. v.name) vars)) (has_shape sigs (role_of g.name) g) distinct loops
 
 -- what a function of a unit is, where these are the signatures before it
 pub record Fits (m : ModuleTree) (sigs : List Signature) (f : FunctionTree) (g : Fun) : Type 0 where
+  pub role : role_of g.name ≡ Function
   pub fits : function_fits sigs g ≡ true
-  pub signature_is : signature_of (defined g) ≡ signature m.name f
+  pub signature_is : signature_of (defined g) ≡ signature (own_callee m.name f)
   pub named : NamedItem (defined g)
-  pub translated : TrFunction m.name m.functions f g
+  pub translated : TrFunction m f g
 
-signature_at : (m : Name) (f : FunctionTree) (g : Fun) → g.name ≡ function_name m f.name → g.result ≡ c_ty.Obj → map (λ v. v.ty) g.params ≡ map (λ _. c_ty.Obj) f.params
-    → signature_of (defined g) ≡ signature m f
-signature_at m f g name result params = cc
+as_many_words : (params : List VarId) → map (λ _. c_ty.Obj) params ≡ replicate (length params) c_ty.Obj
+as_many_words [] = refl
+as_many_words (x ∷ xs) = ap (λ ts. c_ty.Obj ∷ ts) (as_many_words xs)
 
-pub function_fits_module : (m : ModuleTree) (w : IsWellFormed m) (hs : List FunctionTree) (f : FunctionTree) (g : Fun) → Within hs m.functions → Within m.functions hs → IsFunction m.functions f
-    → IsFunctionOf m f g → Fits m (map (signature m.name) hs) f g
-function_fits_module m w hs f g within covers formed is =
+signature_at : (c : Callee) (g : Fun) → g.name ≡ c_name_of c → g.result ≡ c_ty.Obj → map (λ v. v.ty) g.params ≡ replicate c.params c_ty.Obj → signature_of (defined g) ≡ signature c
+signature_at c g name result params = cc
+
+pub function_fits_module : (m : ModuleTree) (w : IsWellFormed m) (cs : List Callee) (f : FunctionTree) (g : Fun) → Within cs (callees m) → Within (callees m) cs → IsFunction m f
+    → IsFunctionOf m f g → Fits m (map signature cs) f g
+function_fits_module m w cs f g within covers formed is =
     let has = has_variables f.params g.locals is.last is.counted is.small in
     let s = setting_of m f in
     let vars = variables_with f.params g.locals in
     let are : vars ≡ variables_of g = ap (λ ps. ps ++ g.locals) (sym is.params) in
-    let sigs = map (signature m.name) hs in
+    let sigs = map signature cs in
     let grounds : Grounds s sigs vars = record {
       locals_named = λ x t l. local_named vars x t has.all_named l;
       scoped = scoped vars 0 f.params has.words_local;
-      signed = λ r h found. let here = called m.functions r h found in signed m.name m.functions w.distinct h hs here within (covers h here);
-      called_named = λ r h found. named_function m.name h.name w.name (is_function m.functions m.functions h w.functions (called m.functions r h found)).name;
+      signed = λ r c found. let here = called m r c found in signed (callees m) (callees_distinct m w) c cs here within (covers c here);
+      called_named = λ r c found. named_at (callees m) c (callees_named m w) (called m r c found);
     } in
     let fine = fine_body s sigs vars grounds f.body (word_names f.params) is.code formed.body is.translated in
+    let role : role_of g.name ≡ Function = ap role_of is.name_is ∙ function_role m.name f.name in
     let types : map (λ v. v.ty) g.params ≡ map (λ _. c_ty.Obj) f.params = ap (map (λ v. v.ty)) is.params ∙ words_typed 0 f.params in
     record {
-      fits = looped_fits sigs g (label_name 0) is.code (ap is_main is.name_is ∙ function_name_not_main m.name f.name)
-          (subst (λ vs. are_distinct (map (λ v. v.name) vs) ≡ true) are has.distinct) is.result is.looped (subst (λ vs. code_fits sigs vs c_ty.Obj is.code ≡ true) are fine.fits);
-      signature_is = signature_at m.name f g is.name_is is.result types;
+      role = role;
+      fits = looped_fits sigs g (label_name 0) is.code role (subst (λ vs. are_distinct (map (λ v. v.name) vs) ≡ true) are has.distinct) is.result is.looped (subst (λ vs. code_fits sigs vs c_ty.Obj is.code ≡ true) are fine.fits);
+      signature_is = signature_at (own_callee m.name f) g is.name_is is.result (types ∙ as_many_words f.params);
       named = (
         subst (λ x. IsTrue (is_function_name x)) (sym is.name_is) (named_function m.name f.name w.name formed.name),
         subst NamedVars (sym is.params) has.params_named,
@@ -224,7 +225,7 @@ function_fits_module m w hs f g within covers formed is =
         label = label_name 0;
         body = is.code;
         looped = is.looped;
-        translated = subst (λ ps. Tr m.name m.functions (scope_of f.params ps) (ps ++ g.locals) (Sequence (more f.body none)) Obj (map (λ v. v.name) ps) back is.code done) (sym is.params)
+        translated = subst (λ ps. Tr m (scope_of f.params ps) (ps ++ g.locals) (Sequence (more f.body none)) Obj (map (λ v. v.name) ps) back is.code done) (sym is.params)
             (whole_body s vars f.body (word_names f.params) is.code formed.body is.translated);
       };
     }

@@ -1,12 +1,14 @@
 pub mod Counts
 pub mod Declared
 pub mod Delivered
+pub mod Empty
 pub mod Evaluated
 pub mod Fitting
 pub mod Functions
 pub mod Mangling
 pub mod Places
 pub mod Related
+pub mod Roles
 pub mod Shapes
 pub mod Soundness
 pub mod Steps

@@ -1,8 +1,7 @@
 -- Mangling keeps names apart.
-use Rattle.std.proofs.Common.{◌≡◌, ℕ, ◌+◌, ◌<◌, ◌≤◌, List, [], ◌∷◌, ◌++◌, Bool, true, false, refl, sym, ap, ◌∙◌, arith}
-use Rattle.std.specs.Prelude.{◌/◌, ◌%◌, codes, nat_lt, if◌then◌else◌}
+use Rattle.std.proofs.Common.{◌≡◌, ℕ, ◌+◌, ◌<◌, ◌≤◌, List, [], ◌∷◌, ◌++◌, Bool, true, false, refl, sym, ap, ◌∙◌, append_assoc, arith}
+use Rattle.std.specs.Prelude.{◌/◌, ◌%◌, nat_lt, if◌then◌else◌}
 use Rattle.std.proofs.lemmas.Bool.{ltb-true, ltb-false}
-use Rattle.std.proofs.lemmas.List.{append_cancel_left}
 use Rattle.c_tree.specs.Names.{is_alphanumeric, hex_digit, mangled, function_name}
 
 hex_same : (a b : ℕ) → hex_digit a ≡ hex_digit b → a ≡ b
@@ -50,7 +49,47 @@ mangled_same (a ∷ cs) (b ∷ ds) e =
     let first : a ≡ b = h.first in
     let others : cs ≡ ds = mangled_same cs ds h.others in cc
 
-pub function_same : (m a b : List ℕ) → function_name m a ≡ function_name m b → a ≡ b
+-- Modules and names -------------------------------------------------------------------------
+
+-- no digit is an underscore
+digit_no_underscore : (n : ℕ) → hex_digit n ≡ 95 → ⊥
+digit_no_underscore n e = go (nat_lt n 10) refl e
+  where
+    go : (x : Bool) → nat_lt n 10 ≡ x → (if x then 48 + n else 87 + n) ≡ 95 → ⊥
+    go true d q = let small : n < 10 = ltb-true n 10 d in absurd (omega arith)
+    go false d q = let large : 10 ≤ n = ltb-false n 10 d in absurd (omega arith)
+
+-- where a mangled text may end, no byte of it stands
+no_end : (b : ℕ) (rest ds : List ℕ) (y : Bool) → is_alphanumeric b ≡ y → 95 ∷ 95 ∷ rest ≡ spelled y b ++ ds → ⊥
+no_end b rest ds true e q = let same : b ≡ 95 = cc in no_underscore b e same
+no_end b rest ds false e q = let digit : hex_digit (b / 16) ≡ 95 = cc in digit_no_underscore (b / 16) digit
+
+record Fronts (m k xs ys : List ℕ) : Type 0 where
+  modules : m ≡ k
+  others : xs ≡ ys
+
+-- two mangled texts that end at the first two underscores
+fronts : (m k xs ys : List ℕ) → mangled m ++ 95 ∷ 95 ∷ xs ≡ mangled k ++ 95 ∷ 95 ∷ ys → Fronts m k xs ys
+fronts [] [] xs ys e = record { modules = refl; others = cc }
+fronts [] (b ∷ ds) xs ys e = absurd (no_end b xs (mangled ds ++ 95 ∷ 95 ∷ ys) (is_alphanumeric b) refl (e ∙ append_assoc (spelled (is_alphanumeric b) b) (mangled ds) (95 ∷ 95 ∷ ys)))
+fronts (a ∷ cs) [] xs ys e = absurd (no_end a ys (mangled cs ++ 95 ∷ 95 ∷ xs) (is_alphanumeric a) refl (sym e ∙ append_assoc (spelled (is_alphanumeric a) a) (mangled cs) (95 ∷ 95 ∷ xs)))
+fronts (a ∷ cs) (b ∷ ds) xs ys e =
+    let h = heads a b (mangled cs ++ 95 ∷ 95 ∷ xs) (mangled ds ++ 95 ∷ 95 ∷ ys) (is_alphanumeric a) (is_alphanumeric b) refl refl
+    (sym (append_assoc (spelled (is_alphanumeric a) a) (mangled cs) (95 ∷ 95 ∷ xs)) ∙ e ∙ append_assoc (spelled (is_alphanumeric b) b) (mangled ds) (95 ∷ 95 ∷ ys)) in
+    let f = fronts cs ds xs ys h.others in
+    let first : a ≡ b = h.first in
+    let others : cs ≡ ds = f.modules in record { modules = cc; others = f.others }
+
+name_parts : (m n : List ℕ) → function_name m n ≡ 102 ∷ 95 ∷ (mangled m ++ 95 ∷ 95 ∷ mangled n)
 unfolding function_name
-function_same m a b e =
-    mangled_same a b (append_cancel_left (codes "f_" ++ mangled m ++ codes "__") (mangled a) (mangled b) e)
+name_parts m n = ap (λ bs. 102 ∷ 95 ∷ bs) (append_assoc (mangled m) (95 ∷ 95 ∷ []) (mangled n))
+
+pub record SameFunction (m k a b : List ℕ) : Type 0 where
+  pub modules : m ≡ k
+  pub names : a ≡ b
+
+pub function_same : (m k a b : List ℕ) → function_name m a ≡ function_name k b → SameFunction m k a b
+function_same m k a b e =
+    let whole : 102 ∷ 95 ∷ (mangled m ++ 95 ∷ 95 ∷ mangled a) ≡ 102 ∷ 95 ∷ (mangled k ++ 95 ∷ 95 ∷ mangled b) = sym (name_parts m a) ∙ e ∙ name_parts k b in
+    let f = fronts m k (mangled a) (mangled b) (cc whole) in
+    record { modules = f.modules; names = mangled_same a b f.others }

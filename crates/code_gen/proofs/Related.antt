@@ -1,12 +1,12 @@
 -- What nodes are related to: the code of a constant, a variable, and a call whose arguments are ready.
-use Rattle.std.proofs.Common.{◌≡◌, List, length, Some, true, false, refl, sym, ap, ◌∙◌, subst}
+use Rattle.std.proofs.Common.{◌≡◌, List, Some, true, false, refl, sym, ap, ◌∙◌, subst}
 use Rattle.prim_table.specs.declared.primitives.Ty.{Ty}
 use Rattle.prim_table.specs.declared.primitives.Primitive.{Primitive as Builtin}
 use Rattle.prim_table.specs.Table.{params_of, result_of}
 use Rattle.core_tree.specs.declared.tree.Const.{Const}
 use Rattle.core_tree.specs.declared.tree.VarId.{VarId}
 use Rattle.core_tree.specs.declared.tree.GlobalRef.{GlobalRef}
-use Rattle.core_tree.specs.Tree.{Tree, Constant, Variable, If, Call, Primitive, Trees, FunctionTree, function_of}
+use Rattle.core_tree.specs.Tree.{Tree, Constant, Variable, If, Call, Primitive, Trees, Callee, callee_of}
 use Rattle.c_tree.specs.declared.op.Op.TheVariants.{Primitive as Does}
 use Rattle.c_tree.specs.declared.tree.CArg.{CArg}
 use Rattle.c_tree.specs.declared.tree.CAtom.TheVariants as atom
@@ -15,11 +15,10 @@ use Rattle.c_tree.specs.declared.tree.CExpr.{CExpr}
 use Rattle.c_tree.specs.declared.tree.CExpr.TheVariants as expr
 use Rattle.c_tree.specs.declared.tree.CVar.{CVar}
 use Rattle.c_tree.specs.Code.{Code, done, call}
-use Rattle.c_tree.specs.Names.{function_name}
 use Rattle.plan_rules.specs.declared.rep.Rep.{Rep}
 use Rattle.plan_rules.specs.declared.rep.Rep.TheVariants.{Obj, Bool as Truth_rep}
 use Rattle.plan_rules.specs.Representation.{PlainAt, slot_of, rep_in, rep_of, has_of, constant_expr, operation, call_of}
-use Rattle.plan_rules.specs.Translation.{Name, Place, deliver, Applied, Branches, Miscounted, haves, objects, is_counted, TrConstant, TrVariable, TrVariableUnused, TrCounted, TrCall, Tr, TrUnused}
+use Rattle.plan_rules.specs.Translation.{Name, Place, deliver, Applied, Branches, Miscounted, haves, objects, is_counted, c_name_of, TrConstant, TrVariable, TrVariableUnused, TrCounted, TrCall, Tr, TrUnused}
 use Rattle.code_gen.specs.Settings.{Setting, scope_in, TrIn, TrUnusedIn, TrArgumentsIn}
 use Rattle.code_gen.specs.Emission.{AreReady, Delivered}
 
@@ -27,7 +26,7 @@ module _ (w : Setting) where
   pub tr_constant : (vars : List CVar) (k : Const) (h : Rep) (e : CExpr) (live : List Name) (place : Place) (code rest : Code) → constant_expr k h ≡ Some e → code ≡ deliver place e rest
       → TrIn w vars (Constant k) h live place code rest
   unfolding Tr
-  tr_constant vars k h e live place code rest found is = subst (λ o. TrConstant w.module_name w.functions (scope_in w) vars o place code rest) (sym found) is
+  tr_constant vars k h e live place code rest found is = subst (λ o. TrConstant w.in_module (scope_in w) vars o place code rest) (sym found) is
 
   pub unused_constant_is : (vars : List CVar) (k : Const) (live : List Name) (code rest : Code) → code ≡ rest → TrUnusedIn w vars (Constant k) live code rest
   unfolding TrUnused
@@ -39,13 +38,13 @@ module _ (w : Setting) where
       → code ≡ deliver place (expr.Atom (atom.Name y)) rest → TrIn w vars (Variable x) Obj live place code rest
   unfolding Tr
   tr_variable vars x y live place code rest found e =
-      subst (λ o. TrVariable w.module_name w.functions (scope_in w) vars o Obj place code rest) (sym found) (refl, e)
+      subst (λ o. TrVariable w.in_module (scope_in w) vars o Obj place code rest) (sym found) (refl, e)
 
   pub unused_variable_is : (vars : List CVar) (x : VarId) (y : Name) (live : List Name) (code rest : Code) → slot_of x (scope_in w) ≡ Some (PlainAt Obj y)
       → code ≡ rest → TrUnusedIn w vars (Variable x) live code rest
   unfolding TrUnused
   unused_variable_is vars x y live code rest found e =
-      subst (λ o. TrVariableUnused w.module_name w.functions (scope_in w) vars o code rest) (sym found) e
+      subst (λ o. TrVariableUnused w.in_module (scope_in w) vars o code rest) (sym found) e
 
   pub variable_has : (x : VarId) (y : Name) (wanted : Rep) → slot_of x (scope_in w) ≡ Some (PlainAt Obj y) → Obj ≡ has_of (scope_in w) (Variable x) wanted
   variable_has x y wanted found = sym (ap rep_in found)
@@ -91,37 +90,37 @@ module _ (w : Setting) where
   unused_primitive_is vars p ns live args code middle rest ready e =
       applied_to vars (params_of p) ns live args (λ args. call (operation (Does p) args) rest) code middle ready e
 
-  module _ (vars : List CVar) (g : GlobalRef) (f : FunctionTree) (ns : Trees) (live : List Name) (found : function_of w.functions g ≡ Some f) where
+  module _ (vars : List CVar) (g : GlobalRef) (f : Callee) (ns : Trees) (live : List Name) (found : callee_of w.in_module g ≡ Some f) where
     abbrev Evaluated : List Name → Code → Code → Type 0
     Evaluated temporaries code middle = TrArgumentsIn w vars (objects ns) ns live temporaries code middle
 
     counted : (args : List CArg) (finish : CCall → Code) (code last rest : Code) → is_counted f ns ≡ true → AreReady w (objects ns) ns live args vars code last
-        → last ≡ finish (call_of (function_name w.module_name f.name) args) → TrCall w.module_name w.functions (scope_in w) vars (function_of w.functions g) Evaluated ns live finish code rest
+        → last ≡ finish (call_of (c_name_of f) args) → TrCall w.in_module (scope_in w) vars (callee_of w.in_module g) Evaluated ns live finish code rest
     counted args finish code last rest right ready e =
-        let applied = applied_to vars (objects ns) ns live args (λ args. finish (call_of (function_name w.module_name f.name) args)) code last ready e in
-        subst (λ o. TrCall w.module_name w.functions (scope_in w) vars o Evaluated ns live finish code rest) (sym found)
-        (subst (λ b. TrCounted w.module_name w.functions (scope_in w) vars b f Evaluated ns live finish code rest) (sym right) applied)
+        let applied = applied_to vars (objects ns) ns live args (λ args. finish (call_of (c_name_of f) args)) code last ready e in
+        subst (λ o. TrCall w.in_module (scope_in w) vars o Evaluated ns live finish code rest) (sym found)
+        (subst (λ b. TrCounted w.in_module (scope_in w) vars b f Evaluated ns live finish code rest) (sym right) applied)
 
-    miscounted : (finish : CCall → Code) (code rest : Code) → is_counted f ns ≡ false → Miscounted vars Evaluated (length f.params) code rest
-        → TrCall w.module_name w.functions (scope_in w) vars (function_of w.functions g) Evaluated ns live finish code rest
+    miscounted : (finish : CCall → Code) (code rest : Code) → is_counted f ns ≡ false → Miscounted vars Evaluated f.params code rest
+        → TrCall w.in_module (scope_in w) vars (callee_of w.in_module g) Evaluated ns live finish code rest
     miscounted finish code rest wrong raised =
-        subst (λ o. TrCall w.module_name w.functions (scope_in w) vars o Evaluated ns live finish code rest) (sym found)
-        (subst (λ b. TrCounted w.module_name w.functions (scope_in w) vars b f Evaluated ns live finish code rest) (sym wrong) raised)
+        subst (λ o. TrCall w.in_module (scope_in w) vars o Evaluated ns live finish code rest) (sym found)
+        (subst (λ b. TrCounted w.in_module (scope_in w) vars b f Evaluated ns live finish code rest) (sym wrong) raised)
 
     pub tr_counted : (args : List CArg) (place : Place) (code middle rest : Code) → is_counted f ns ≡ true → AreReady w (objects ns) ns live args vars code middle
-        → middle ≡ deliver place (expr.Call (call_of (function_name w.module_name f.name) args)) rest → TrIn w vars (Call g ns) Obj live place code rest
+        → middle ≡ deliver place (expr.Call (call_of (c_name_of f) args)) rest → TrIn w vars (Call g ns) Obj live place code rest
     unfolding Tr
     tr_counted args place code middle rest right ready e = (refl, counted args (λ c. deliver place (expr.Call c) rest) code middle rest right ready e)
 
-    pub tr_miscounted : (place : Place) (code rest : Code) → is_counted f ns ≡ false → Miscounted vars Evaluated (length f.params) code rest → TrIn w vars (Call g ns) Obj live place code rest
+    pub tr_miscounted : (place : Place) (code rest : Code) → is_counted f ns ≡ false → Miscounted vars Evaluated f.params code rest → TrIn w vars (Call g ns) Obj live place code rest
     unfolding Tr
     tr_miscounted place code rest wrong raised = (refl, miscounted (λ c. deliver place (expr.Call c) rest) code rest wrong raised)
 
     pub unused_counted_is : (args : List CArg) (code middle rest : Code) → is_counted f ns ≡ true → AreReady w (objects ns) ns live args vars code middle
-        → middle ≡ call (call_of (function_name w.module_name f.name) args) rest → TrUnusedIn w vars (Call g ns) live code rest
+        → middle ≡ call (call_of (c_name_of f) args) rest → TrUnusedIn w vars (Call g ns) live code rest
     unfolding TrUnused
     unused_counted_is args code middle rest right ready e = counted args (λ c. call c rest) code middle rest right ready e
 
-    pub unused_miscounted_is : (code rest : Code) → is_counted f ns ≡ false → Miscounted vars Evaluated (length f.params) code rest → TrUnusedIn w vars (Call g ns) live code rest
+    pub unused_miscounted_is : (code rest : Code) → is_counted f ns ≡ false → Miscounted vars Evaluated f.params code rest → TrUnusedIn w vars (Call g ns) live code rest
     unfolding TrUnused
     unused_miscounted_is code rest wrong raised = miscounted (λ c. call c rest) code rest wrong raised

@@ -1,10 +1,8 @@
 -- The trees of nodes: what a node that may stand somewhere has for parts, and the work that is left.
 use Rattle.std.proofs.Common.{◌≡◌, ℕ, zero, suc, ◌+◌, ◌<◌, ◌≤◌, List, [], ◌∷◌, length, map, get_or, refl, sym, ap, ◌∙◌, subst, arith, rules}
-use Rattle.std.specs.Prelude.{IsTrue, Some, Bool, true, false, nat_eq}
-use Rattle.std.specs.Option.{option_map}
+use Rattle.std.specs.Prelude.{IsTrue, Bool, true, false, nat_eq}
 use Rattle.std.proofs.lemmas.Bool.{eq-eqb, eqb-true}
 use Rattle.std.specs.List.{list_any}
-use Rattle.std.proofs.lemmas.Option.{slice_get-map, slice_get-get_or}
 use Rattle.prim_table.specs.declared.primitives.Ty.{Ty}
 use Rattle.prim_table.specs.declared.primitives.Ty.TheVariants as ty
 use Rattle.prim_table.specs.declared.primitives.Primitive.{Primitive as Builtin}
@@ -12,13 +10,11 @@ use Rattle.prim_table.specs.Table.{params_of}
 use Rattle.core_tree.specs.declared.tree.Const.{Const}
 use Rattle.core_tree.specs.declared.tree.VarId.{VarId}
 use Rattle.core_tree.specs.declared.tree.GlobalRef.{GlobalRef}
-use Rattle.core_tree.specs.declared.tree.GlobalRef.TheVariants.{Own}
-use Rattle.core_tree.specs.declared.tree.Top.{Top}
 use Rattle.core_tree.specs.declared.tree.Node.{Node}
 use Rattle.core_tree.specs.declared.tree.Node as node
 use Rattle.core_tree.specs.declared.tree.Node.TheViews as view
-use Rattle.core_tree.specs.Tree.{Tree, Constant, Variable, If, Sequence, Call, Primitive, Trees, none, more, trees, tree, count, FunctionTree, function_of, function_tree}
-use Rattle.core_tree.specs.WellFormed.{AsMany, Defined, same_variable}
+use Rattle.core_tree.specs.Tree.{Tree, Constant, Variable, If, Sequence, Call, Primitive, Trees, none, more, trees, tree, count, Callee, callee_of}
+use Rattle.core_tree.specs.WellFormed.{AsMany, IsFound, same_variable}
 use Rattle.plan_rules.specs.Translation.{objects, is_counted}
 use Rattle.code_gen.specs.Settings.{Setting, IsNode, AreNodes, IsBodyIn}
 
@@ -58,9 +54,9 @@ module _ (w : Setting) where
   primitive_parts n p ns xs e are h =
       subst (λ (ms : List Node). AsMany (params_of p) (parts ms) × AreNodes w (parts ms)) (sym are) (subst (IsNode w) (ap tree e ∙ tree-Primitive p ns) h)
 
-  pub call_parts : (n : Node) (g : GlobalRef) (ns xs : List Node) → n ≡ view.Call g ns → xs ≡ ns → IsNode w (tree n) → Defined (function_of w.functions g) × AreNodes w (parts xs)
+  pub call_parts : (n : Node) (g : GlobalRef) (ns xs : List Node) → n ≡ view.Call g ns → xs ≡ ns → IsNode w (tree n) → IsFound (callee_of w.in_module g) × AreNodes w (parts xs)
   call_parts n g ns xs e are h =
-      subst (λ (ms : List Node). Defined (function_of w.functions g) × AreNodes w (parts ms)) (sym are) (subst (IsNode w) (ap tree e ∙ tree-Call g ns) h)
+      subst (λ (ms : List Node). IsFound (callee_of w.in_module g) × AreNodes w (parts ms)) (sym are) (subst (IsNode w) (ap tree e ∙ tree-Call g ns) h)
 
   pub chosen_parts : (n a b c x y z : Node) → n ≡ view.If a b c → x ≡ a → y ≡ b → z ≡ c → IsNode w (tree n) → IsNode w (If (tree x) (tree y) (tree z))
   chosen_parts n a b c x y z e x_is y_is z_is h = subst (IsNode w) (chosen_tree n a b c x y z e x_is y_is z_is) h
@@ -113,20 +109,11 @@ nat_other : (a b : ℕ) (t : Bool) → nat_eq a b ≡ t → (a ≡ b → ⊥) �
 nat_other a b true e ne = absurd (ne (eqb-true a b e))
 nat_other a b false e ne = e
 
-pub right_count : (f : FunctionTree) (ns : List Node) → length ns ≡ length f.params → is_counted f (parts ns) ≡ true
-right_count f ns e = nat_same (count (parts ns)) (length f.params) (count_is ns ∙ e)
+pub right_count : (f : Callee) (ns : List Node) → length ns ≡ f.params → is_counted f (parts ns) ≡ true
+right_count f ns e = nat_same (count (parts ns)) f.params (count_is ns ∙ e)
 
-pub wrong_count : (f : FunctionTree) (ns : List Node) → (length ns ≡ length f.params → ⊥) → is_counted f (parts ns) ≡ false
-wrong_count f ns ne = nat_other (count (parts ns)) (length f.params) (is_counted f (parts ns)) refl (λ e. ne (sym (count_is ns) ∙ e))
-
--- the function with a number
-pub called_function : (tops : List Top) (n : ℕ) (top : Top) → n < length tops → top ≡ get_or tops n top → function_of (map function_tree tops) (Own n) ≡ Some (function_tree top)
-called_function tops n top within is = slice_get-map function_tree tops n ∙ ap (option_map function_tree) (slice_get-get_or tops n top within ∙ ap Some (sym is))
-
-pub called_within : (tops : List Top) (n : ℕ) → Defined (function_of (map function_tree tops) (Own n)) → n < length tops
-called_within [] n h = absurd h
-called_within (t ∷ ts) zero h = omega arith
-called_within (t ∷ ts) (suc n) h = let less : n < length ts = called_within ts n h in omega arith
+pub wrong_count : (f : Callee) (ns : List Node) → (length ns ≡ f.params → ⊥) → is_counted f (parts ns) ≡ false
+wrong_count f ns ne = nat_other (count (parts ns)) f.params (is_counted f (parts ns)) refl (λ e. ne (sym (count_is ns) ∙ e))
 
 -- the work that is left: what a recursion goes down
 unfoldable mutual

@@ -1,5 +1,5 @@
 -- The statements of a translated body are named, and their types fit.
-use Rattle.std.proofs.Common.{◌≡◌, ℕ, List, [], ◌∷◌, ◌++◌, length, map, Bool, true, false, Option, Some, None, refl, sym, ap, ◌∙◌, subst, arith}
+use Rattle.std.proofs.Common.{◌≡◌, ℕ, zero, suc, List, [], ◌∷◌, ◌++◌, map, replicate, Bool, true, false, Option, Some, None, refl, sym, ap, ◌∙◌, subst, arith}
 use Rattle.std.specs.Prelude.{IsTrue, pos, ◌&&◌}
 use Rattle.std.proofs.lemmas.Bool.{and_from, eqb-true}
 use Rattle.prim_table.specs.declared.primitives.Ty.{Ty}
@@ -11,7 +11,7 @@ use Rattle.core_tree.specs.declared.tree.Const.{Const}
 use Rattle.core_tree.specs.declared.tree.Const.TheVariants as const
 use Rattle.core_tree.specs.declared.tree.VarId.{VarId}
 use Rattle.core_tree.specs.declared.tree.GlobalRef.{GlobalRef}
-use Rattle.core_tree.specs.Tree.{Tree, Constant, Variable, If, Sequence, Call, Primitive, Trees, none, more, count, FunctionTree, function_of}
+use Rattle.core_tree.specs.Tree.{Tree, Constant, Variable, If, Sequence, Call, Primitive, Trees, none, more, count, Callee, callee_of}
 use Rattle.c_tree.specs.declared.op.Op.{Op}
 use Rattle.c_tree.specs.declared.op.Op.TheVariants.{BoxLong, BoxBool, UnboxLong, Truth, Primitive as Does}
 use Rattle.c_tree.specs.declared.tree.CTy.{CTy}
@@ -24,13 +24,13 @@ use Rattle.c_tree.specs.declared.tree.CExpr.{CExpr}
 use Rattle.c_tree.specs.declared.tree.CExpr.TheVariants as expr
 use Rattle.c_tree.specs.declared.tree.CVar.{CVar}
 use Rattle.c_tree.specs.Code.{Code, done, assign, call, return, test}
-use Rattle.c_tree.specs.Names.{function_name, is_local_name, is_function_name}
+use Rattle.c_tree.specs.Names.{is_local_name, is_function_name}
 use Rattle.c_tree.specs.Spelling.{NamedArguments, NamedCall, NamedExpr, NamedCode}
 use Rattle.c_meaning.specs.Checked.{Signature, signature_named, same_type, is_typed, variable_named, Wants, AType, wants_of, gives_of, arguments_fit, call_fits_signature, call_type, is_the_type, has_type, expr_fits, assigned_fits, code_fits}
 use Rattle.plan_rules.specs.declared.rep.Rep.{Rep}
 use Rattle.plan_rules.specs.declared.rep.Rep.TheVariants.{Obj, Long, Bool as Truth_rep}
 use Rattle.plan_rules.specs.Representation.{Slot, PlainAt, slot_of, rep_of, c_type_of, has_of, constant_expr, condition, operation, raise_count, raise_type, call_of, local, step}
-use Rattle.plan_rules.specs.Translation.{Name, IsLocal, Place, into, back, deliver, Statements, Coerced, Fits, AllFit, Applied, Branches, haves, objects, is_counted, TrConstant, TrVariable, TrVariableUnused, TrCounted, TrCall, Tr, TrUnused, TrLast, TrArguments}
+use Rattle.plan_rules.specs.Translation.{Name, IsLocal, Place, into, back, deliver, Statements, Coerced, Fits, AllFit, Applied, Branches, haves, objects, is_counted, c_name_of, TrConstant, TrVariable, TrVariableUnused, TrCounted, TrCall, Tr, TrUnused, TrLast, TrArguments}
 use Rattle.code_gen.specs.Settings.{Setting, scope_in, IsNode, AreNodes, TrIn, TrUnusedIn, TrLastIn, TrArgumentsIn}
 
 same_c_type : (t u : CTy) → same_type t u ≡ true → t ≡ u
@@ -54,25 +54,25 @@ same_c_type c_ty.Int c_ty.Int e = refl
 -- Signatures --------------------------------------------------------------------------------
 
 -- a function takes and gives words
-abbrev pub signature : Name → FunctionTree → Signature
-signature m f = record { name = function_name m f.name; result = c_ty.Obj; params = map (λ _. c_ty.Obj) f.params }
+abbrev pub signature : Callee → Signature
+signature f = record { name = c_name_of f; result = c_ty.Obj; params = replicate f.params c_ty.Obj }
 
 -- what the statements of a function rest on: their variables are locals, and the functions that they may call are declared
 pub record Grounds (w : Setting) (sigs : List Signature) (vars : List CVar) : Type 0 where
   pub locals_named : (x : Name) (t : CTy) → IsLocal vars x t → IsTrue (is_local_name x)
   pub scoped : (x : VarId) (r : Rep) (y : Name) → slot_of x (scope_in w) ≡ Some (PlainAt r y) → IsLocal vars y (c_type_of r)
-  pub signed : (g : GlobalRef) (f : FunctionTree) → function_of w.functions g ≡ Some f → signature_named sigs (function_name w.module_name f.name) ≡ Some (signature w.module_name f)
-  pub called_named : (g : GlobalRef) (f : FunctionTree) → function_of w.functions g ≡ Some f → IsTrue (is_function_name (function_name w.module_name f.name))
+  pub signed : (g : GlobalRef) (f : Callee) → callee_of w.in_module g ≡ Some f → signature_named sigs (c_name_of f) ≡ Some (signature f)
+  pub called_named : (g : GlobalRef) (f : Callee) → callee_of w.in_module g ≡ Some f → IsTrue (is_function_name (c_name_of f))
 
 abbrev wanted : Ty → Wants
 wanted t = AType (c_type_of (rep_of t))
 
 -- as many words are wanted as there are parameters
-objects_want : (ns : Trees) (params : List VarId) → count ns ≡ length params → map wanted (objects ns) ≡ map AType (map (λ _. c_ty.Obj) params)
-objects_want none [] e = refl
-objects_want none (x ∷ xs) e = absurd (omega arith)
-objects_want (more n ns) [] e = absurd (omega arith)
-objects_want (more n ns) (x ∷ xs) e = ap (λ ws. AType c_ty.Obj ∷ ws) (objects_want ns xs (omega arith))
+objects_want : (ns : Trees) (params : ℕ) → count ns ≡ params → map wanted (objects ns) ≡ map AType (replicate params c_ty.Obj)
+objects_want none zero e = refl
+objects_want none (suc k) e = absurd (omega arith)
+objects_want (more n ns) zero e = absurd (omega arith)
+objects_want (more n ns) (suc k) e = ap (λ ws. AType c_ty.Obj ∷ ws) (objects_want ns k (omega arith))
 
 module _ (w : Setting) (sigs : List Signature) (vars : List CVar) (grounds : Grounds w sigs vars) where
   pub record Fine (code : Code) : Type 0 where
@@ -106,9 +106,9 @@ module _ (w : Setting) (sigs : List Signature) (vars : List CVar) (grounds : Gro
   fine_operation op args h = record { typed = rw h.fits refl; named = (tt, h.named) }
 
   -- the signature is found, and the arguments fit it
-  fine_own : (g : GlobalRef) (f : FunctionTree) (args : List CArg) → function_of w.functions g ≡ Some f → FineArgs (map AType (map (λ _. c_ty.Obj) f.params)) args
-      → FineCall (call_of (function_name w.module_name f.name) args) c_ty.Obj
-  fine_own g f args found h = record {
+  fine_function : (g : GlobalRef) (f : Callee) (args : List CArg) → callee_of w.in_module g ≡ Some f → FineArgs (map AType (replicate f.params c_ty.Obj)) args
+      → FineCall (call_of (c_name_of f) args) c_ty.Obj
+  fine_function g f args found h = record {
     typed = ap (λ s. call_fits_signature vars s args) (grounds.signed g f found) ∙ rw h.fits refl;
     named = (grounds.called_named g f found, h.named);
   }
@@ -318,41 +318,41 @@ module _ (w : Setting) (sigs : List Signature) (vars : List CVar) (grounds : Gro
       let fits : FineArgs (wants_of (Does p)) args = subst (λ ws. FineArgs ws args) (sym (wants-params p)) h in
       subst (FineCall (operation (Does p) args)) (gives-result p) (fine_operation (Does p) args fits)
 
-  fine_counted : (right : Bool) (g : GlobalRef) (f : FunctionTree) (ns : Trees) (live : List Name) (finish : CCall → Code) (code rest : Code)
-      → is_counted f ns ≡ right → function_of w.functions g ≡ Some f
+  fine_counted : (right : Bool) (g : GlobalRef) (f : Callee) (ns : Trees) (live : List Name) (finish : CCall → Code) (code rest : Code)
+      → is_counted f ns ≡ right → callee_of w.in_module g ≡ Some f
       → ((ys : List Name) (code middle : Code) → TrArgumentsIn w vars (objects ns) ns live ys code middle → Fine middle → Fine code)
       → ((c : CCall) → FineCall c c_ty.Obj → Fine (finish c)) → Fine rest
-      → TrCounted w.module_name w.functions (scope_in w) vars right f (λ ys code middle. TrArgumentsIn w vars (objects ns) ns live ys code middle) ns live finish code rest → Fine code
+      → TrCounted w.in_module (scope_in w) vars right f (λ ys code middle. TrArgumentsIn w vars (objects ns) ns live ys code middle) ns live finish code rest → Fine code
   fine_counted true g f ns live finish code rest counted found evaluated finished end t =
-      fine_applied (objects ns) ns live (λ args. finish (call_of (function_name w.module_name f.name) args)) code evaluated
-      (λ args h. finished (call_of (function_name w.module_name f.name) args)
-      (fine_own g f args found (subst (λ ws. FineArgs ws args) (objects_want ns f.params (eqb-true (count ns) (length f.params) counted)) h)))
+      fine_applied (objects ns) ns live (λ args. finish (call_of (c_name_of f) args)) code evaluated
+      (λ args h. finished (call_of (c_name_of f) args)
+      (fine_function g f args found (subst (λ ws. FineArgs ws args) (objects_want ns f.params (eqb-true (count ns) f.params counted)) h)))
       t
   fine_counted false g f ns live finish code rest counted found evaluated finished end t =
-      evaluated t.temporaries code t.middle t.values (subst Fine (sym t.is) (fine_statement (raise_count (length f.params)) c_ty.Int rest (fine_raise (length f.params)) end))
+      evaluated t.temporaries code t.middle t.values (subst Fine (sym t.is) (fine_statement (raise_count f.params) c_ty.Int rest (fine_raise f.params) end))
 
-  fine_called : (o : Option FunctionTree) (g : GlobalRef) (ns : Trees) (live : List Name) (finish : CCall → Code) (code rest : Code) → function_of w.functions g ≡ o
+  fine_called : (o : Option Callee) (g : GlobalRef) (ns : Trees) (live : List Name) (finish : CCall → Code) (code rest : Code) → callee_of w.in_module g ≡ o
       → ((ys : List Name) (code middle : Code) → TrArgumentsIn w vars (objects ns) ns live ys code middle → Fine middle → Fine code)
       → ((c : CCall) → FineCall c c_ty.Obj → Fine (finish c)) → Fine rest
-      → TrCall w.module_name w.functions (scope_in w) vars o (λ ys code middle. TrArgumentsIn w vars (objects ns) ns live ys code middle) ns live finish code rest → Fine code
+      → TrCall w.in_module (scope_in w) vars o (λ ys code middle. TrArgumentsIn w vars (objects ns) ns live ys code middle) ns live finish code rest → Fine code
   fine_called None g ns live finish code rest found evaluated finished end t = absurd t
   fine_called (Some f) g ns live finish code rest found evaluated finished end t = fine_counted (is_counted f ns) g f ns live finish code rest refl found evaluated finished end t
 
   -- Nodes -----------------------------------------------------------------------------------
 
   fine_literal : (o : Option CExpr) (k : Const) (h : Rep) (place : Place) (code rest : Code) → constant_expr k h ≡ o → IsNode w (Constant k)
-      → TrConstant w.module_name w.functions (scope_in w) vars o place code rest → PlaceFits place h → Fine rest → Fine code
+      → TrConstant w.in_module (scope_in w) vars o place code rest → PlaceFits place h → Fine rest → Fine code
   fine_literal None k h place code rest is x t l g = absurd t
   fine_literal (Some e) k h place code rest is x t l g = subst Fine (sym t) (fine_deliver place h e rest l (fine_constant k h e x is) g)
 
   fine_variable : (o : Option Slot) (x : VarId) (h : Rep) (place : Place) (code rest : Code) → slot_of x (scope_in w) ≡ o
-      → TrVariable w.module_name w.functions (scope_in w) vars o h place code rest → PlaceFits place h → Fine rest → Fine code
+      → TrVariable w.in_module (scope_in w) vars o h place code rest → PlaceFits place h → Fine rest → Fine code
   fine_variable None x h place code rest found t l g = absurd t
   fine_variable (Some (PlainAt r y)) x h place code rest found t l g =
       let there : IsLocal vars y (c_type_of h) = subst (λ k. IsLocal vars y (c_type_of k)) (sym t.0) (grounds.scoped x r y found) in
       subst Fine (sym t.1) (fine_deliver place h (expr.Atom (atom.Name y)) rest l (fine_local y (c_type_of h) there) g)
 
-  fine_variable_unused : (o : Option Slot) (code rest : Code) → TrVariableUnused w.module_name w.functions (scope_in w) vars o code rest → Fine rest → Fine code
+  fine_variable_unused : (o : Option Slot) (code rest : Code) → TrVariableUnused w.in_module (scope_in w) vars o code rest → Fine rest → Fine code
   fine_variable_unused None code rest t g = absurd t
   fine_variable_unused (Some slot) code rest t g = subst Fine (sym t) g
 
@@ -395,7 +395,7 @@ module _ (w : Setting) (sigs : List Signature) (vars : List CVar) (grounds : Gro
         t.1 g
     fine_tr (Sequence ts) x h live place code rest t l g = absurd x
     fine_tr (Call f ns) x h live place code rest t l g =
-        fine_called (function_of w.functions f) f ns live (λ c. deliver place (expr.Call c) rest) code rest refl
+        fine_called (callee_of w.in_module f) f ns live (λ c. deliver place (expr.Call c) rest) code rest refl
         (λ ys code middle a f. fine_arguments ns x.1 (objects ns) live ys code middle a f)
         (λ c f. fine_deliver place Obj (expr.Call c) rest (subst (PlaceFits place) t.0 l) (fine_call c c_ty.Obj f) g) g t.1
     fine_tr (Primitive p ns) x h live place code rest t l g =
@@ -423,7 +423,7 @@ module _ (w : Setting) (sigs : List Signature) (vars : List CVar) (grounds : Gro
       (λ code t. fine_unused b x.1 live code done t fine_done) (λ code t. fine_unused c x.2 live code done t fine_done) t g
   fine_unused (Sequence ts) x live code rest t g = absurd x
   fine_unused (Call f ns) x live code rest t g =
-      fine_called (function_of w.functions f) f ns live (λ c. call c rest) code rest refl
+      fine_called (callee_of w.in_module f) f ns live (λ c. call c rest) code rest refl
       (λ ys code middle a f. fine_arguments ns x.1 (objects ns) live ys code middle a f) (λ c f. fine_statement c c_ty.Obj rest f g) g t
   fine_unused (Primitive p ns) x live code rest t g =
       fine_applied (params_of p) ns live (λ args. call (operation (Does p) args) rest) code (λ ys code middle a f. fine_arguments ns x.1 (params_of p) live ys code middle a f)

@@ -1,24 +1,28 @@
--- A unit: declarations of all functions, and then their definitions.
+-- A unit: declarations of all functions that may be called, and then definitions of those of the module, of its maker and of its initialisation.
 use Rattle.std.proofs.Common.{◌≡◌, ℕ, zero, suc, ◌+◌, ◌<◌, true, List, [], ◌∷◌, ◌++◌, length, map, take, get_or, inl, inr, refl, sym, ap, ◌∙◌, subst, arith, append_assoc}
 use Rattle.std.specs.Prelude.{◌&&◌, IsTrue}
 use Rattle.std.proofs.lemmas.Bool.{and_from}
 use Rattle.std.proofs.lemmas.List.{map-append, take_more}
-use Rattle.core_tree.specs.Tree.{FunctionTree, ModuleTree, function_tree}
+use Rattle.core_tree.specs.Tree.{FunctionTree, ModuleTree, Callee, own_callee, row_callee, used_callees, function_tree}
 use Rattle.core_tree.specs.declared.tree.Top.{Top}
+use Rattle.core_tree.specs.declared.tree.Use.{Use}
+use Rattle.core_tree.specs.declared.tree.Use.TheVariants.{From, Need}
 use Rattle.core_tree.specs.WellFormed.{IsFunction, AreFunctions, IsWellFormed}
 use Rattle.c_tree.specs.declared.function.CFun.{CFun}
 use Rattle.c_tree.specs.declared.function.CItem.{CItem}
 use Rattle.c_tree.specs.declared.function.CItem.TheVariants.{Defined}
 use Rattle.c_tree.specs.Code.{Fun, Item, defined}
 use Rattle.c_tree.specs.Functions.{fun_of, item_of, items_of}
-use Rattle.c_tree.specs.Names.{function_name}
+use Rattle.c_tree.specs.Names.{function_name, maker_name, initializer_name}
 use Rattle.c_tree.specs.Spelling.{NamedItems}
-use Rattle.c_meaning.specs.Checked.{Signature, signature_of, function_fits, callable, agrees, are_distinct, items_fit, defined_names, is_sound}
-use Rattle.plan_rules.specs.Translation.{Name, TrFunctions, AreOwn, Translated}
-use Rattle.code_gen.specs.Emission.{IsFunctionOf, declaration, declarations_of, AreFunctionsOf, AddsFunctions}
+use Rattle.c_meaning.specs.Checked.{Signature, signature_of, role_of, function_fits, callable, agrees, are_distinct, items_fit, defined_names}
+use Rattle.plan_rules.specs.Translation.{Name, c_name_of, IsEmpty, TrFunctions, callees, AreDeclared, outside_of, is_sound_with, Translated}
+use Rattle.code_gen.specs.Emission.{IsFunctionOf, declaration, own_callees, declarations_of, AreFunctionsOf, AddsFunctions}
 use Rattle.code_gen.proofs.Soundness.{signature}
-use Rattle.code_gen.proofs.Declared.{Has, Within, names_of, names_distinct, in_names, is_function, named_function, agree, all_callable}
+use Rattle.code_gen.proofs.Declared.{Has, Within, has_before, has_turned, contained, own_has, is_function, names_of, named_maker, named_initializer, callees_named, named_at, callees_distinct, defined_distinct, agree, all_callable}
+use Rattle.code_gen.proofs.Empty.{last_items, last_named, last_translated, last_spelled, last_fit}
 use Rattle.code_gen.proofs.Functions.{Fits, function_fits_module}
+use Rattle.code_gen.proofs.Roles.{last_names}
 
 -- Functions are added -----------------------------------------------------------------------
 
@@ -43,151 +47,204 @@ adds_one m tops i top before middle after g within top_is so one e =
 pub pushed_item : (before after : List CItem) (g : CFun) → after ≡ before ++ Defined g ∷ [] → items_of after ≡ items_of before ++ defined (fun_of g) ∷ []
 pushed_item before after g e = ap items_of e ∙ map-append item_of before (Defined g ∷ [])
 
--- a function at a place is one of the module
-function_got : (functions fs : List FunctionTree) (tops : List Top) (i : ℕ) (d : Top) → fs ≡ map function_tree tops → i < length tops → AreFunctions functions fs → IsFunction functions (function_tree (get_or tops i d))
-function_got functions fs [] i d e within all = absurd (omega arith)
-function_got functions [] (t ∷ ts) i d e within all = absurd (cc)
-function_got functions (f ∷ fs) (t ∷ ts) zero d e within all = let same : f ≡ function_tree t = cc in subst (IsFunction functions) same all.0
-function_got functions (f ∷ fs) (t ∷ ts) (suc i) d e within all = let others : fs ≡ map function_tree ts = cc in function_got functions fs ts i d others (omega arith) all.1
+pub pushed_two : (before middle after : List CItem) (g h : CFun) → middle ≡ before ++ Defined g ∷ [] → after ≡ middle ++ Defined h ∷ []
+    → items_of after ≡ items_of before ++ defined (fun_of g) ∷ defined (fun_of h) ∷ []
+pushed_two before middle after g h first second =
+    pushed_item middle after h second ∙ ap (λ is. is ++ defined (fun_of h) ∷ []) (pushed_item before middle g first) ∙ append_assoc (items_of before) (defined (fun_of g) ∷ []) (defined (fun_of h) ∷ [])
 
-pub function_at : (functions : List FunctionTree) (tops : List Top) (i : ℕ) (top : Top) → i < length tops → top ≡ get_or tops i top → AreFunctions functions (map function_tree tops) → IsFunction functions (function_tree top)
-function_at functions tops i top within top_is all = subst (λ (t : Top). IsFunction functions (function_tree t)) (sym top_is) (function_got functions (map function_tree tops) tops i top refl within all)
+-- a function at a place is one of the module
+function_got : (m : ModuleTree) (fs : List FunctionTree) (tops : List Top) (i : ℕ) (d : Top) → fs ≡ map function_tree tops → i < length tops → AreFunctions m fs → IsFunction m (function_tree (get_or tops i d))
+function_got m fs [] i d e within all = absurd (omega arith)
+function_got m [] (t ∷ ts) i d e within all = absurd (cc)
+function_got m (f ∷ fs) (t ∷ ts) zero d e within all = let same : f ≡ function_tree t = cc in subst (IsFunction m) same all.0
+function_got m (f ∷ fs) (t ∷ ts) (suc i) d e within all = let others : fs ≡ map function_tree ts = cc in function_got m fs ts i d others (omega arith) all.1
+
+pub function_at : (m : ModuleTree) (tops : List Top) (i : ℕ) (top : Top) → i < length tops → top ≡ get_or tops i top → AreFunctions m (map function_tree tops) → IsFunction m (function_tree top)
+function_at m tops i top within top_is all = subst (λ (t : Top). IsFunction m (function_tree t)) (sym top_is) (function_got m (map function_tree tops) tops i top refl within all)
+
+-- Uses are declared -------------------------------------------------------------------------
+
+used_append : (us vs : List Use) → used_callees (us ++ vs) ≡ used_callees us ++ used_callees vs
+used_append [] vs = refl
+used_append (From k r ∷ us) vs = ap (λ cs. row_callee k r ∷ cs) (used_append us vs)
+used_append (Need k r ∷ us) vs = used_append us vs
+
+pub declares_one : (us : List Use) (i : ℕ) (u : Use) (before middle after : List Item) → i < length us → u ≡ get_or us i u → middle ≡ before ++ map declaration (used_callees (take i us))
+    → after ≡ middle ++ map declaration (used_callees (u ∷ [])) → after ≡ before ++ map declaration (used_callees (take (i + 1) us))
+declares_one us i u before middle after within u_is so e =
+    let so_far = map declaration (used_callees (take i us)) in
+    let one = map declaration (used_callees (u ∷ [])) in
+    let used : used_callees (take (i + 1) us) ≡ used_callees (take i us) ++ used_callees (u ∷ []) =
+    ap used_callees (take_more us i u within ∙ ap (λ (v : Use). take i us ++ v ∷ []) (sym u_is)) ∙ used_append (take i us) (u ∷ []) in
+    e ∙ ap (λ is. is ++ one) so ∙ append_assoc before so_far one
+    ∙ ap (λ is. before ++ is) (sym (ap (map declaration) used ∙ map-append declaration (used_callees (take i us)) (used_callees (u ∷ []))))
 
 -- The unit ----------------------------------------------------------------------------------
 
--- functions put in front of others, one after another
-abbrev stacked : List FunctionTree → List FunctionTree → List FunctionTree
-stacked [] hs = hs
-stacked (f ∷ fs) hs = stacked fs (f ∷ hs)
+-- what is declared, the newest first
+abbrev stacked : List Callee → List Callee → List Callee
+stacked [] ds = ds
+stacked (c ∷ cs) ds = stacked cs (c ∷ ds)
 
-stacked_under : (f : FunctionTree) (fs hs : List FunctionTree) → Has f hs → Has f (stacked fs hs)
-stacked_under f [] hs h = h
-stacked_under f (g ∷ gs) hs h = stacked_under f gs (g ∷ hs) (inr h)
+stacked_under : (c : Callee) (cs ds : List Callee) → Has c ds → Has c (stacked cs ds)
+stacked_under c [] ds h = h
+stacked_under c (e ∷ es) ds h = stacked_under c es (e ∷ ds) (inr h)
 
-stacked_has : (f : FunctionTree) (fs hs : List FunctionTree) → Has f fs → Has f (stacked fs hs)
-stacked_has f [] hs h = absurd h
-stacked_has f (g ∷ gs) hs h = elim h [
-  | inl e ↦ stacked_under f gs (g ∷ hs) (inl e)
-  | inr j ↦ stacked_has f gs (g ∷ hs) j
+stacked_has : (c : Callee) (cs ds : List Callee) → Has c cs → Has c (stacked cs ds)
+stacked_has c [] ds h = absurd h
+stacked_has c (e ∷ es) ds h = elim h [
+  | inl q ↦ stacked_under c es (e ∷ ds) (inl q)
+  | inr j ↦ stacked_has c es (e ∷ ds) j
 ]
 
-with_one : (fs hs : List FunctionTree) (f : FunctionTree) → Has f fs → Within hs fs → Within (f ∷ hs) fs
-with_one fs hs f here within = λ h j. elim j [
-  | inl e ↦ subst (λ k. Has k fs) (sym e) here
+with_one : (all ds : List Callee) (c : Callee) → Has c all → Within ds all → Within (c ∷ ds) all
+with_one all ds c here within = λ h j. elim j [
+  | inl e ↦ subst (λ k. Has k all) (sym e) here
   | inr i ↦ within h i
 ]
 
-stacked_within : (all fs hs : List FunctionTree) → Within fs all → Within hs all → Within (stacked fs hs) all
-stacked_within all [] hs some within = within
-stacked_within all (f ∷ fs) hs some within = stacked_within all fs (f ∷ hs) (λ h j. some h (inr j)) (with_one all hs f (some f (inl refl)) within)
+stacked_within : (all cs ds : List Callee) → Within cs all → Within ds all → Within (stacked cs ds) all
+stacked_within all [] ds some within = within
+stacked_within all (c ∷ cs) ds some within = stacked_within all cs (c ∷ ds) (λ h j. some h (inr j)) (with_one all ds c (some c (inl refl)) within)
 
-module _ (m : ModuleTree) (w : IsWellFormed m) where
-  abbrev signatures : List FunctionTree → List Signature
-  signatures hs = map (signature m.name) hs
+module _ (m : ModuleTree) (w : IsWellFormed m) (maker initializer : Fun) (made : IsEmpty (maker_name m.name) maker) (initialized : IsEmpty (initializer_name m.name) initializer) where
+  abbrev signatures : List Callee → List Signature
+  signatures cs = map signature cs
+
+  -- what is defined in the text or elsewhere
+  abbrev there : List Callee
+  there = used_callees m.uses ++ own_callees m
 
   abbrev names : List Name
-  names = names_of m.name m.functions
+  names = names_of there ++ last_names m.name
+
+  abbrev last : List Item
+  last = last_items m maker initializer made initialized
+
+  own : (f : FunctionTree) → Has f m.functions → Has (own_callee m.name f) (callees m)
+  own f h = has_before (own_callee m.name f) (own_callees m) (used_callees m.uses) (own_has m.name m.functions f h)
+
+  all_there : (ds : List Callee) → Within ds (callees m) → Within ds there
+  all_there ds within = λ c h. has_turned c (own_callees m) (used_callees m.uses) (within c h)
+
+  agrees_here : (c : Callee) (ds : List Callee) → Has c (callees m) → Within ds (callees m) → agrees (signatures ds) (signature c) ≡ true
+  agrees_here c ds here within = agree (callees m) (callees_distinct m w) c ds here within
 
   -- declarations fit, and leave their signatures
-  declared_fit : (fs hs : List FunctionTree) (rest : List Item) → Within fs m.functions → Within hs m.functions → items_fit names (signatures (stacked fs hs)) rest ≡ true
-      → items_fit names (signatures hs) (map (declaration m.name) fs ++ rest) ≡ true
-  declared_fit [] hs rest some within end = end
-  declared_fit (f ∷ fs) hs rest some within end =
-      let here = some f (inl refl) in
-      let others = declared_fit fs (f ∷ hs) rest (λ h j. some h (inr j)) (with_one m.functions hs f here within) end in
-      let first : (agrees (signatures hs) (signature m.name f) && true) ≡ true = and_from (agrees (signatures hs) (signature m.name f)) true (agree m.name m.functions w.distinct f hs here within) refl in
-      and_from (agrees (signatures hs) (signature m.name f) && true) (items_fit names (signature m.name f ∷ signatures hs) (map (declaration m.name) fs ++ rest)) first others
+  declared_fit : (cs ds : List Callee) (rest : List Item) → Within cs (callees m) → Within ds (callees m) → items_fit names (signatures (stacked cs ds)) rest ≡ true
+      → items_fit names (signatures ds) (map declaration cs ++ rest) ≡ true
+  declared_fit [] ds rest some within end = end
+  declared_fit (c ∷ cs) ds rest some within end =
+      let here = some c (inl refl) in
+      let others = declared_fit cs (c ∷ ds) rest (λ h j. some h (inr j)) (with_one (callees m) ds c here within) end in
+      let first : (agrees (signatures ds) (signature c) && true) ≡ true = and_from (agrees (signatures ds) (signature c)) true (agrees_here c ds here within) refl in
+      and_from (agrees (signatures ds) (signature c) && true) (items_fit names (signature c ∷ signatures ds) (map declaration cs ++ rest)) first others
 
-  defined_one : (f : FunctionTree) (hs : List FunctionTree) (g : Fun) (rest : List Item) → Has f m.functions → Within hs m.functions → Fits m (signatures hs) f g
-      → items_fit names (signature m.name f ∷ signatures hs) rest ≡ true → items_fit names (signatures hs) (defined g ∷ rest) ≡ true
-  defined_one f hs g rest here within one others =
+  defined_one : (f : FunctionTree) (ds : List Callee) (g : Fun) (rest : List Item) → Has f m.functions → Within ds (callees m) → Fits m (signatures ds) f g
+      → items_fit names (signature (own_callee m.name f) ∷ signatures ds) rest ≡ true → items_fit names (signatures ds) (defined g ∷ rest) ≡ true
+  defined_one f ds g rest here within one others =
       let s = signature_of (defined g) in
-      let may : function_fits (callable names (signatures hs)) g ≡ true = ap (λ sigs. function_fits sigs g) (all_callable m.name m.functions w.distinct hs within) ∙ one.fits in
-      let same : agrees (signatures hs) s ≡ true = ap (agrees (signatures hs)) one.signature_is ∙ agree m.name m.functions w.distinct f hs here within in
-      let end : items_fit names (s ∷ signatures hs) rest ≡ true = subst (λ t. items_fit names (t ∷ signatures hs) rest ≡ true) (sym one.signature_is) others in
-      and_from (agrees (signatures hs) s && function_fits (callable names (signatures hs)) g) (items_fit names (s ∷ signatures hs) rest)
-      (and_from (agrees (signatures hs) s) (function_fits (callable names (signatures hs)) g) same may) end
+      let may : function_fits (callable (role_of g.name) names (signatures ds)) g ≡ true =
+      ap (λ r. function_fits (callable r names (signatures ds)) g) one.role ∙ ap (λ sigs. function_fits sigs g) (all_callable there (last_names m.name) ds (all_there ds within)) ∙ one.fits in
+      let same : agrees (signatures ds) s ≡ true = ap (agrees (signatures ds)) one.signature_is ∙ agrees_here (own_callee m.name f) ds (own f here) within in
+      let end : items_fit names (s ∷ signatures ds) rest ≡ true = subst (λ t. items_fit names (t ∷ signatures ds) rest ≡ true) (sym one.signature_is) others in
+      and_from (agrees (signatures ds) s && function_fits (callable (role_of g.name) names (signatures ds)) g) (items_fit names (s ∷ signatures ds) rest)
+      (and_from (agrees (signatures ds) s) (function_fits (callable (role_of g.name) names (signatures ds)) g) same may) end
 
-  defined_fit : (fs hs : List FunctionTree) (gs : List Fun) → Within fs m.functions → Within hs m.functions → Within m.functions hs → AreFunctionsOf m fs gs
-      → items_fit names (signatures hs) (map defined gs) ≡ true
-  defined_fit [] hs [] some within covers all = refl
-  defined_fit [] hs (g ∷ gs) some within covers all = absurd all
-  defined_fit (f ∷ fs) hs [] some within covers all = absurd all
-  defined_fit (f ∷ fs) hs (g ∷ gs) some within covers all =
+  defined_fit : (fs : List FunctionTree) (ds : List Callee) (gs : List Fun) → Within fs m.functions → Within ds (callees m) → Within (callees m) ds → AreFunctionsOf m fs gs
+      → items_fit names (signatures ds) (map defined gs ++ last) ≡ true
+  defined_fit [] ds [] some within covers all = last_fit m maker initializer made initialized (named_maker m.name w.name) (named_initializer m.name w.name) names ds
+  defined_fit [] ds (g ∷ gs) some within covers all = absurd all
+  defined_fit (f ∷ fs) ds [] some within covers all = absurd all
+  defined_fit (f ∷ fs) ds (g ∷ gs) some within covers all =
       let here = some f (inl refl) in
-      let one = function_fits_module m w hs f g within covers (is_function m.functions m.functions f w.functions here) all.0 in
-      defined_one f hs g (map defined gs) here within one
-      (defined_fit fs (f ∷ hs) gs (λ h j. some h (inr j)) (with_one m.functions hs f here within) (λ h j. inr (covers h j)) all.1)
+      let one = function_fits_module m w ds f g within covers (is_function m m.functions f w.functions here) all.0 in
+      defined_one f ds g (map defined gs ++ last) here within one
+      (defined_fit fs (own_callee m.name f ∷ ds) gs (λ h j. some h (inr j)) (with_one (callees m) ds (own_callee m.name f) (own f here) within) (λ h j. inr (covers h j)) all.1)
 
-  declared_names : (fs : List FunctionTree) (rest : List Item) → defined_names (map (declaration m.name) fs ++ rest) ≡ defined_names rest
+  declared_names : (cs : List Callee) (rest : List Item) → defined_names (map declaration cs ++ rest) ≡ defined_names rest
   declared_names [] rest = refl
-  declared_names (f ∷ fs) rest = declared_names fs rest
+  declared_names (c ∷ cs) rest = declared_names cs rest
 
-  names_are : (fs : List FunctionTree) (gs : List Fun) → AreFunctionsOf m fs gs → defined_names (map defined gs) ≡ names_of m.name fs
-  names_are [] [] all = refl
+  names_are : (fs : List FunctionTree) (gs : List Fun) → AreFunctionsOf m fs gs → defined_names (map defined gs ++ last) ≡ names_of (map (own_callee m.name) fs) ++ last_names m.name
+  names_are [] [] all = last_named m maker initializer made initialized
   names_are [] (g ∷ gs) all = absurd all
   names_are (f ∷ fs) [] all = absurd all
-  names_are (f ∷ fs) (g ∷ gs) all = ap (λ x. x ∷ defined_names (map defined gs)) all.0.name_is ∙ ap (λ xs. function_name m.name f.name ∷ xs) (names_are fs gs all.1)
+  names_are (f ∷ fs) (g ∷ gs) all = ap (λ x. x ∷ defined_names (map defined gs ++ last)) all.0.name_is ∙ ap (λ xs. function_name m.name f.name ∷ xs) (names_are fs gs all.1)
 
   everything : Within m.functions m.functions
   everything = λ h j. j
 
-  nothing : Within [] m.functions
-  nothing = λ h j. absurd j
+  all_callees : Within (callees m) (callees m)
+  all_callees = λ c j. j
 
-  sound : (gs : List Fun) → AreFunctionsOf m m.functions gs → IsTrue (is_sound (declarations_of m ++ map defined gs))
-  unfolding is_sound
+  nothing : Within [] (callees m)
+  nothing = λ c j. absurd j
+
+  -- what is declared before the definitions
+  abbrev before : List Callee
+  before = stacked (callees m) []
+
+  before_within : Within before (callees m)
+  before_within = stacked_within (callees m) (callees m) [] all_callees nothing
+
+  covered : Within (callees m) before
+  covered = λ c j. stacked_has c (callees m) [] j
+
+  sound : (gs : List Fun) → AreFunctionsOf m m.functions gs → IsTrue (is_sound_with (outside_of m) (declarations_of m ++ (map defined gs ++ last)))
+  unfolding is_sound_with
   sound gs all =
-      let items = declarations_of m ++ map defined gs in
-      let are : defined_names items ≡ names = declared_names m.functions (map defined gs) ∙ names_are m.functions gs all in
-      let within : Within (stacked m.functions []) m.functions = stacked_within m.functions m.functions [] everything nothing in
-      let fit : items_fit names [] items ≡ true =
-      declared_fit m.functions [] (map defined gs) everything nothing
-      (defined_fit m.functions (stacked m.functions []) gs everything within (λ h j. stacked_has h m.functions [] j) all) in
-      and_from (are_distinct (defined_names items)) (items_fit (defined_names items) [] items) (ap are_distinct are ∙ names_distinct m.name m.functions ∙ w.distinct)
-      (subst (λ ns. items_fit ns [] items ≡ true) (sym are) fit)
+      let definitions = map defined gs ++ last in
+      let items = declarations_of m ++ definitions in
+      let are : defined_names items ≡ names_of (own_callees m) ++ last_names m.name = declared_names (callees m) definitions ∙ names_are m.functions gs all in
+      let distinct : are_distinct (defined_names items) ≡ true = ap are_distinct are ∙ defined_distinct m w in
+      let found : outside_of m ++ defined_names items ≡ names =
+      ap (λ ns. outside_of m ++ ns) are ∙ sym (append_assoc (outside_of m) (names_of (own_callees m)) (last_names m.name))
+      ∙ ap (λ ns. ns ++ last_names m.name) (sym (map-append c_name_of (used_callees m.uses) (own_callees m))) in
+      let fit : items_fit names [] items ≡ true = declared_fit (callees m) [] definitions all_callees nothing (defined_fit m.functions before gs everything before_within covered all) in
+      and_from (are_distinct (defined_names items)) (items_fit (outside_of m ++ defined_names items) [] items) distinct (subst (λ ns. items_fit ns [] items ≡ true) (sym found) fit)
 
   -- each definition
-  one_fits : (f : FunctionTree) (g : Fun) → Has f m.functions → IsFunctionOf m f g → Fits m (signatures (stacked m.functions [])) f g
-  one_fits f g here is =
-      function_fits_module m w (stacked m.functions []) f g (stacked_within m.functions m.functions [] everything nothing) (λ h j. stacked_has h m.functions [] j)
-      (is_function m.functions m.functions f w.functions here) is
+  one_fits : (f : FunctionTree) (g : Fun) → Has f m.functions → IsFunctionOf m f g → Fits m (signatures before) f g
+  one_fits f g here is = function_fits_module m w before f g before_within covered (is_function m m.functions f w.functions here) is
 
-  named_definitions : (fs : List FunctionTree) (gs : List Fun) → Within fs m.functions → AreFunctionsOf m fs gs → NamedItems (map defined gs)
-  named_definitions [] [] some all = tt
+  named_definitions : (fs : List FunctionTree) (gs : List Fun) → Within fs m.functions → AreFunctionsOf m fs gs → NamedItems (map defined gs ++ last)
+  named_definitions [] [] some all = last_spelled m maker initializer made initialized (named_maker m.name w.name) (named_initializer m.name w.name)
   named_definitions [] (g ∷ gs) some all = absurd all
   named_definitions (f ∷ fs) [] some all = absurd all
   named_definitions (f ∷ fs) (g ∷ gs) some all = ((one_fits f g (some f (inl refl)) all.0).named, named_definitions fs gs (λ h j. some h (inr j)) all.1)
 
-  named_all : (fs : List FunctionTree) (rest : List Item) → Within fs m.functions → NamedItems rest → NamedItems (map (declaration m.name) fs ++ rest)
+  named_all : (cs : List Callee) (rest : List Item) → Within cs (callees m) → NamedItems rest → NamedItems (map declaration cs ++ rest)
   named_all [] rest some end = end
-  named_all (f ∷ fs) rest some end =
-      (named_function m.name f.name w.name (is_function m.functions m.functions f w.functions (some f (inl refl))).name, named_all fs rest (λ h j. some h (inr j)) end)
+  named_all (c ∷ cs) rest some end = (named_at (callees m) c (callees_named m w) (some c (inl refl)), named_all cs rest (λ h j. some h (inr j)) end)
 
-  translated_definitions : (fs : List FunctionTree) (gs : List Fun) → Within fs m.functions → AreFunctionsOf m fs gs → TrFunctions m.name m.functions fs (map defined gs)
-  translated_definitions [] [] some all = tt
+  translated_definitions : (fs : List FunctionTree) (gs : List Fun) → Within fs m.functions → AreFunctionsOf m fs gs → TrFunctions m fs (map defined gs ++ last)
+  translated_definitions [] [] some all = last_translated m maker initializer made initialized
   translated_definitions [] (g ∷ gs) some all = absurd all
   translated_definitions (f ∷ fs) [] some all = absurd all
   translated_definitions (f ∷ fs) (g ∷ gs) some all = ((one_fits f g (some f (inl refl)) all.0).translated, translated_definitions fs gs (λ h j. some h (inr j)) all.1)
 
-  translated_all : (fs ds : List FunctionTree) (rest : List Item) → TrFunctions m.name m.functions fs rest → TrFunctions m.name m.functions fs (map (declaration m.name) ds ++ rest)
+  translated_all : (fs : List FunctionTree) (cs : List Callee) (rest : List Item) → TrFunctions m fs rest → TrFunctions m fs (map declaration cs ++ rest)
   translated_all fs [] rest end = end
-  translated_all [] (d ∷ ds) rest end = translated_all [] ds rest end
-  translated_all (f ∷ fs) (d ∷ ds) rest end = translated_all (f ∷ fs) ds rest end
+  translated_all [] (c ∷ cs) rest end = translated_all [] cs rest end
+  translated_all (f ∷ fs) (c ∷ cs) rest end = translated_all (f ∷ fs) cs rest end
 
-  own_definitions : (gs : List Fun) → AreOwn m.name m.functions (map defined gs)
-  own_definitions [] = tt
-  own_definitions (g ∷ gs) = own_definitions gs
+  declared_definitions : (gs : List Fun) → AreDeclared (callees m) (map defined gs ++ last)
+  declared_definitions [] = tt
+  declared_definitions (g ∷ gs) = declared_definitions gs
 
-  own_all : (fs : List FunctionTree) (rest : List Item) → Within fs m.functions → AreOwn m.name m.functions rest → AreOwn m.name m.functions (map (declaration m.name) fs ++ rest)
-  own_all [] rest some end = end
-  own_all (f ∷ fs) rest some end = (in_names m.name m.functions f (some f (inl refl)), own_all fs rest (λ h j. some h (inr j)) end)
+  declared_all : (cs : List Callee) (rest : List Item) → Within cs (callees m) → AreDeclared (callees m) rest → AreDeclared (callees m) (map declaration cs ++ rest)
+  declared_all [] rest some end = end
+  declared_all (c ∷ cs) rest some end =
+      (record { callee = c; is_one = contained c (callees m) (some c (inl refl)); named = refl; gives = refl; takes = refl }, declared_all cs rest (λ h j. some h (inr j)) end)
 
-  pub translated_from : (items : List Item) → AddsFunctions m m.functions (declarations_of m) items → Translated m items
-  translated_from items adds =
-      subst (Translated m) (sym adds.is) (record {
-        functions = translated_all m.functions m.functions (map defined adds.added) (translated_definitions m.functions adds.added everything adds.are);
-        own = own_all m.functions (map defined adds.added) everything (own_definitions adds.added);
-        named = named_all m.functions (map defined adds.added) everything (named_definitions m.functions adds.added everything adds.are);
+  pub translated_from : (middle items : List Item) → AddsFunctions m m.functions (declarations_of m) middle → items ≡ middle ++ last → Translated m items
+  translated_from middle items adds ends =
+      let definitions = map defined adds.added ++ last in
+      let are : items ≡ declarations_of m ++ definitions = ends ∙ ap (λ is. is ++ last) adds.is ∙ append_assoc (declarations_of m) (map defined adds.added) last in
+      subst (Translated m) (sym are) (record {
+        functions = translated_all m.functions (callees m) definitions (translated_definitions m.functions adds.added everything adds.are);
+        declarations = declared_all (callees m) definitions all_callees (declared_definitions adds.added);
+        named = named_all (callees m) definitions all_callees (named_definitions m.functions adds.added everything adds.are);
         sound = sound adds.added adds.are;
       })

@@ -20,7 +20,7 @@ use Rattle.plan_rules.specs.Translation.{Name, back, Branches, objects, Tr, TrLa
 use Rattle.code_gen.specs.declared.emitter.Emitter.{Emitter}
 use Rattle.code_gen.specs.declared.emitter.Place.TheVariants.{Back}
 use Rattle.code_gen.specs.Settings.{Setting, scope_in, TrIn, TrUnusedIn, TrLastIn}
-use Rattle.code_gen.specs.Emission.{AreBelow, Puts, Emits, IsTested, IsPrimitiveCall, IsCounted, IsMiscounted, IsOwnCall, IsUnused, Delivered, IsDelivered, IsBodyOf}
+use Rattle.code_gen.specs.Emission.{AreBelow, Puts, Emits, IsTested, IsPrimitiveCall, IsCounted, IsMiscounted, IsFunctionCall, IsUnused, Delivered, IsDelivered, IsBodyOf}
 use Rattle.code_gen.proofs.Counts.{below_more}
 use Rattle.code_gen.proofs.Steps.{Means, same, then, weaker, call_emits}
 use Rattle.code_gen.proofs.Related.{unused_constant_is, unused_variable_is, unused_if_is, unused_primitive_is, unused_counted_is, unused_miscounted_is}
@@ -50,7 +50,7 @@ module _ (w : Setting) where
         (λ vars code middle rest a b live below. unused_primitive_is w vars p ns live called.args code middle rest (a live below) (b ∙ ap (λ d. call d rest) called.is));
   }
 
-  pub unused_counted : (s t u : Emitter) (g : GlobalRef) (ns : Trees) (c : CCall) → IsOwnCall w s t g ns (Some c) → Puts t u (piece.Call c) → IsUnused w s u (Call g ns)
+  pub unused_counted : (s t u : Emitter) (g : GlobalRef) (ns : Trees) (c : CCall) → IsFunctionCall w s t g ns (Some c) → Puts t u (piece.Call c) → IsUnused w s u (Call g ns)
   unused_counted s t u g ns c called puts =
       let is : IsCounted w s t called.callee ns c = called.written in
       record {
@@ -59,7 +59,7 @@ module _ (w : Setting) where
             (λ vars code middle rest a b live below. unused_counted_is w vars g called.callee ns live called.found is.args code middle rest is.counted (a live below) (b ∙ ap (λ d. call d rest) is.is));
       }
 
-  pub unused_miscounted : (s t : Emitter) (g : GlobalRef) (ns : Trees) → IsOwnCall w s t g ns None → IsUnused w s t (Call g ns)
+  pub unused_miscounted : (s t : Emitter) (g : GlobalRef) (ns : Trees) → IsFunctionCall w s t g ns None → IsUnused w s t (Call g ns)
   unused_miscounted s t g ns called =
       let is : IsMiscounted w s t called.callee ns = called.written in
       record {

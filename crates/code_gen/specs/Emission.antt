@@ -1,12 +1,12 @@
 -- What the emitter adds: for any rest after it, code in front of the rest that is related to what was asked for.
-use Rattle.std.specs.Prelude.{◌≡◌, ℕ, suc, ◌<◌, ◌≤◌, ◌^◌, List, [], ◌∷◌, ◌++◌, map, IsTrue, true, false, length, Option, Some, None}
+use Rattle.std.specs.Prelude.{◌≡◌, ℕ, suc, ◌<◌, ◌≤◌, ◌^◌, List, [], ◌∷◌, ◌++◌, map, replicate, IsTrue, true, false, length, Option, Some, None}
 use Rattle.std.specs.List.{list_all}
 use Rattle.prim_table.specs.declared.primitives.Ty.{Ty}
 use Rattle.prim_table.specs.declared.primitives.Primitive.{Primitive as Builtin}
 use Rattle.prim_table.specs.Table.{params_of, is_parameter_type}
 use Rattle.core_tree.specs.declared.tree.VarId.{VarId}
 use Rattle.core_tree.specs.declared.tree.GlobalRef.{GlobalRef}
-use Rattle.core_tree.specs.Tree.{Tree, Trees, FunctionTree, ModuleTree, function_of}
+use Rattle.core_tree.specs.Tree.{Tree, Trees, FunctionTree, ModuleTree, Callee, own_callee, callee_of}
 use Rattle.c_tree.specs.declared.op.Op.TheVariants.{Primitive as Does}
 use Rattle.c_tree.specs.declared.tree.CTy.TheVariants as c_ty
 use Rattle.c_tree.specs.declared.tree.CArg.{CArg}
@@ -22,7 +22,7 @@ use Rattle.c_tree.specs.Pieces.{pieces}
 use Rattle.plan_rules.specs.declared.rep.Rep.{Rep}
 use Rattle.plan_rules.specs.declared.rep.Rep.TheVariants.{Obj, Bool as Truth_rep}
 use Rattle.plan_rules.specs.Representation.{c_type_of, has_of, operation, call_of, local, condition, Step, Keep, Make, Refuse, step}
-use Rattle.plan_rules.specs.Translation.{Name, Fresh, IsLocal, Place, Coerced, Fits, Refused, AllFit, Miscounted, haves, objects, is_counted, into, back, deliver}
+use Rattle.plan_rules.specs.Translation.{Name, Fresh, IsLocal, Place, Coerced, Fits, Refused, AllFit, Miscounted, haves, objects, is_counted, c_name_of, callees, into, back, deliver}
 use Rattle.code_gen.specs.Scopes.{words}
 use Rattle.code_gen.specs.Settings.{Setting, scope_in, TrIn, TrUnusedIn, TrArgumentsIn}
 use Rattle.code_gen.specs.declared.coercions.Coercion.{Coercion}
@@ -176,25 +176,25 @@ pub record IsPrimitiveCall (w : Setting) (s t : Emitter) (p : Builtin) (ns : Tre
   pub is : call ≡ operation (Does p) args
   pub ready : IsReady w s t (params_of p) ns args
 
-pub record IsCounted (w : Setting) (s t : Emitter) (f : FunctionTree) (ns : Trees) (call : CCall) : Type 0 where
+pub record IsCounted (w : Setting) (s t : Emitter) (f : Callee) (ns : Trees) (call : CCall) : Type 0 where
   pub args : List CArg
   pub counted : is_counted f ns ≡ true
-  pub is : call ≡ call_of (function_name w.module_name f.name) args
+  pub is : call ≡ call_of (c_name_of f) args
   pub ready : IsReady w s t (objects ns) ns args
 
-pub record IsMiscounted (w : Setting) (s t : Emitter) (f : FunctionTree) (ns : Trees) : Type 0 where
+pub record IsMiscounted (w : Setting) (s t : Emitter) (f : Callee) (ns : Trees) : Type 0 where
   pub counted : is_counted f ns ≡ false
   pub emits : Emits s t (λ vars code rest. (live : List Name) → AreBelow s.next live
-      → Miscounted vars (λ temporaries code middle. TrArgumentsIn w vars (objects ns) ns live temporaries code middle) (length f.params) code rest)
+      → Miscounted vars (λ temporaries code middle. TrArgumentsIn w vars (objects ns) ns live temporaries code middle) f.params code rest)
 
 -- a call, or the raising of an error in its place
-abbrev pub IsCallOf : Setting → Emitter → Emitter → FunctionTree → Trees → Option CCall → Type 0
+abbrev pub IsCallOf : Setting → Emitter → Emitter → Callee → Trees → Option CCall → Type 0
 IsCallOf w s t f ns None = IsMiscounted w s t f ns
 IsCallOf w s t f ns (Some call) = IsCounted w s t f ns call
 
-pub record IsOwnCall (w : Setting) (s t : Emitter) (g : GlobalRef) (ns : Trees) (call : Option CCall) : Type 0 where
-  pub callee : FunctionTree
-  pub found : function_of w.functions g ≡ Some callee
+pub record IsFunctionCall (w : Setting) (s t : Emitter) (g : GlobalRef) (ns : Trees) (call : Option CCall) : Type 0 where
+  pub callee : Callee
+  pub found : callee_of w.in_module g ≡ Some callee
   pub written : IsCallOf w s t callee ns call
 
 pub record IsUnused (w : Setting) (s t : Emitter) (n : Tree) : Type 0 where
@@ -237,7 +237,7 @@ pub record ArePieces (ps : List Piece) : Type 0 where
   pub are : ps ≡ pieces code []
 
 abbrev pub setting_of : ModuleTree → FunctionTree → Setting
-setting_of m f = record { module_name = m.name; functions = m.functions; params = f.params }
+setting_of m f = record { in_module = m; params = f.params }
 
 pub record IsFunctionOf (m : ModuleTree) (f : FunctionTree) (g : Fun) : Type 0 where
   pub name_is : g.name ≡ function_name m.name f.name
@@ -252,11 +252,15 @@ pub record IsFunctionOf (m : ModuleTree) (f : FunctionTree) (g : Fun) : Type 0 w
 
 -- Units -------------------------------------------------------------------------------------
 
-abbrev pub declaration : Name → FunctionTree → Item
-declaration m f = declared c_ty.Obj (function_name m f.name) (map (λ _. c_ty.Obj) f.params)
+-- a function that is called takes and gives words
+abbrev pub declaration : Callee → Item
+declaration f = declared c_ty.Obj (c_name_of f) (replicate f.params c_ty.Obj)
+
+abbrev pub own_callees : ModuleTree → List Callee
+own_callees m = map (own_callee m.name) m.functions
 
 abbrev pub declarations_of : ModuleTree → List Item
-declarations_of m = map (declaration m.name) m.functions
+declarations_of m = map declaration (callees m)
 
 abbrev pub AreFunctionsOf : ModuleTree → List FunctionTree → List Fun → Type 0
 AreFunctionsOf m [] [] = Unit {0}

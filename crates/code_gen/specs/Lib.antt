@@ -1,3 +1,4 @@
 pub mod Emission
+pub mod Samples
 pub mod Scopes
 pub mod Settings

@@ -1,7 +1,7 @@
 -- What a module and a function give to the statements in it.
-use Rattle.std.specs.Prelude.{List, map}
+use Rattle.std.specs.Prelude.{List}
 use Rattle.core_tree.specs.declared.tree.VarId.{VarId}
-use Rattle.core_tree.specs.Tree.{Tree, Trees, FunctionTree, function_tree}
+use Rattle.core_tree.specs.Tree.{Tree, Trees, ModuleTree, Callee, module_tree}
 use Rattle.core_tree.specs.WellFormed.{IsExpression, AreExpressions, IsBody}
 use Rattle.c_tree.specs.declared.tree.CVar.{CVar}
 use Rattle.c_tree.specs.Code.{Code}
@@ -10,15 +10,18 @@ use Rattle.plan_rules.specs.Representation.{Scope}
 use Rattle.prim_table.specs.declared.primitives.Ty.{Ty}
 use Rattle.plan_rules.specs.Translation.{Name, Statements, Tr, TrUnused, TrLast, TrArguments}
 use Rattle.code_gen.specs.Scopes.{scope_with}
+use Rattle.code_gen.specs.declared.callees.Called.{Called}
 use Rattle.code_gen.specs.declared.context.Context.{Context}
 
 pub record Setting : Type 0 where
-  pub module_name : Name
-  pub functions : List FunctionTree
+  pub in_module : ModuleTree
   pub params : List VarId
 
 abbrev pub setting : Context → Setting
-setting c = record { module_name = c.module_name.now; functions = map function_tree c.functions.now; params = c.params }
+setting c = record { in_module = module_tree c.in_module.now; params = c.params }
+
+abbrev pub callee_in : Called → Callee
+callee_in c = record { module_name = c.module_name.now; name = c.name.now; params = c.params }
 
 abbrev pub scope_in : Setting → Scope
 scope_in w = scope_with w.params
@@ -26,24 +29,24 @@ scope_in w = scope_with w.params
 -- Nodes that may stand there ----------------------------------------------------------------
 
 abbrev pub IsNode : Setting → Tree → Type 0
-IsNode w n = IsExpression w.functions w.params n
+IsNode w n = IsExpression w.in_module w.params n
 
 abbrev pub AreNodes : Setting → Trees → Type 0
-AreNodes w ns = AreExpressions w.functions w.params ns
+AreNodes w ns = AreExpressions w.in_module w.params ns
 
 abbrev pub IsBodyIn : Setting → Tree → Type 0
-IsBodyIn w n = IsBody w.functions w.params n
+IsBodyIn w n = IsBody w.in_module w.params n
 
 -- Their statements --------------------------------------------------------------------------
 
 abbrev pub TrIn : Setting → List CVar → Tree → Rep → List Name → Statements
-TrIn w vars n h live place code rest = Tr w.module_name w.functions (scope_in w) vars n h live place code rest
+TrIn w vars n h live place code rest = Tr w.in_module (scope_in w) vars n h live place code rest
 
 abbrev pub TrUnusedIn : Setting → List CVar → Tree → List Name → Code → Code → Type 0
-TrUnusedIn w vars n live code rest = TrUnused w.module_name w.functions (scope_in w) vars n live code rest
+TrUnusedIn w vars n live code rest = TrUnused w.in_module (scope_in w) vars n live code rest
 
 abbrev pub TrLastIn : Setting → List CVar → Trees → Rep → List Name → Statements
-TrLastIn w vars ns h live place code rest = TrLast w.module_name w.functions (scope_in w) vars ns h live place code rest
+TrLastIn w vars ns h live place code rest = TrLast w.in_module (scope_in w) vars ns h live place code rest
 
 abbrev pub TrArgumentsIn : Setting → List CVar → List Ty → Trees → List Name → List Name → Code → Code → Type 0
-TrArgumentsIn w vars types ns live temporaries code rest = TrArguments w.module_name w.functions (scope_in w) vars types ns live temporaries code rest
+TrArgumentsIn w vars types ns live temporaries code rest = TrArguments w.in_module (scope_in w) vars types ns live temporaries code rest

@@ -5,7 +5,7 @@ ghost use Rattle.code_gen.specs.Settings.{setting, IsNode, AreNodes, IsBodyIn};
 ghost use Rattle.code_gen.specs.Emission.{IsUnused, IsBodyOf};
 
 use crate::branches::tested;
-use crate::calls::{own_call, primitive_call};
+use crate::calls::{function_call, primitive_call};
 use crate::context::Context;
 use crate::emitter::{Emitter, Place};
 use crate::nodes::delivered;
@@ -24,7 +24,7 @@ fn unused(ctx: &Context, e: &mut Emitter, node: &Node) -> Result<(), OutOfMemory
         Node::If(test, first, second) => {
             unused_branches(ctx, e, test.get(), first.get(), second.get())
         }
-        Node::Call(g, nodes) => match own_call(ctx, e, *g, nodes.as_slice())? {
+        Node::Call(g, nodes) => match function_call(ctx, e, *g, nodes.as_slice())? {
             Some(call) => e.put(Piece::Call(call)),
             None => Ok(()),
         },

@@ -1,17 +1,17 @@
 // Calls, whose arguments are evaluated from left to right and then made to fit.
 ghost use Rattle.std.specs.Prelude.{◌≡◌, map, IfOk};
 ghost use Rattle.prim_table.specs.Table.{params_of};
-ghost use Rattle.core_tree.specs.Tree.{tree, trees, function_of};
-ghost use Rattle.core_tree.specs.WellFormed.{AsMany, Defined};
+ghost use Rattle.core_tree.specs.Tree.{tree, trees, callee_of};
+ghost use Rattle.core_tree.specs.WellFormed.{AsMany, IsFound};
 ghost use Rattle.code_gen.specs.Settings.{setting, AreNodes};
-ghost use Rattle.code_gen.specs.Emission.{AreParameters, AreArguments, IsReady, IsPrimitiveCall, IsOwnCall};
+ghost use Rattle.code_gen.specs.Emission.{AreParameters, AreArguments, IsReady, IsPrimitiveCall, IsFunctionCall};
 
 use crate::coercions::fitted;
-use crate::context::{Context, name_of, params_of};
+use crate::context::Context;
 use crate::emitter::{Emitter, Held};
 use crate::nodes::value;
 use crate::parts::{local_args, object_types, param_types, raise_count, rep};
-use c_tree::{CArg, CCall, Callee, Op, Piece, function_name_text};
+use c_tree::{CArg, CCall, Callee, Op, Piece};
 use core_tree::{GlobalRef, Node};
 use prim_table::{Primitive, Ty};
 use scheme_data::{List, OutOfMemory};
@@ -35,29 +35,28 @@ pub fn primitive_call(
     })
 }
 
-/// The call of a function of the module; none where the number of arguments is wrong, and an error is raised in its place.
+/// The call of a function; none where the number of arguments is wrong, and an error is raised in its place.
 #[cycle(values)]
-pub fn own_call(
+pub fn function_call(
     ctx: &Context,
     e: &mut Emitter,
     g: GlobalRef,
     nodes: &[Node],
 ) -> Result<Option<CCall>, OutOfMemory>
-    requires defined { Defined (function_of (setting ctx.now).functions g) }
+    requires found { IsFound (callee_of (setting ctx.now).in_module g) }
     requires expressions { AreNodes (setting ctx.now) (trees (map tree nodes.now)) }
-    ensures { IfOk result (λ call. IsOwnCall (setting ctx.now) e.old e.new g (trees (map tree nodes.now)) call) }
+    ensures { IfOk result (λ call. IsFunctionCall (setting ctx.now) e.old e.new g (trees (map tree nodes.now)) call) }
 {
-    let f = ctx.function(g);
-    let want = params_of(f).len();
+    let called = ctx.callee(g);
     let types = object_types(e.alloc, nodes)?;
-    if nodes.len() != want {
+    if nodes.len() != called.params {
         arguments(ctx, e, types.as_slice(), nodes)?;
-        let raise = raise_count(e.alloc, want)?;
+        let raise = raise_count(e.alloc, called.params)?;
         e.put(Piece::Call(raise))?;
         return Ok(None);
     }
     let args = ready(ctx, e, types.as_slice(), nodes)?;
-    let name = function_name_text(e.alloc, ctx.module_name.as_bytes(), name_of(f).as_bytes())?;
+    let name = called.c_name(e.alloc)?;
     Ok(Some(CCall {
         callee: Callee::Fun(name),
         args,

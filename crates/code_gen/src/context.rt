@@ -1,18 +1,18 @@
 // What the statements of a function may name.
 ghost use Rattle.std.specs.Prelude.{◌≡◌, IfOk, IsTrue, Some, length};
 ghost use Rattle.std.specs.List.{list_any};
-ghost use Rattle.core_tree.specs.declared.tree.GlobalRef.TheVariants.{Own};
-ghost use Rattle.core_tree.specs.Tree.{function_tree, function_of, tree};
-ghost use Rattle.core_tree.specs.WellFormed.{same_variable, Defined};
+ghost use Rattle.core_tree.specs.Tree.{callee_of};
+ghost use Rattle.core_tree.specs.WellFormed.{same_variable, IsFound};
 ghost use Rattle.c_tree.specs.Names.{local_name};
 ghost use Rattle.plan_rules.specs.declared.rep.Rep.TheVariants.{Obj};
 ghost use Rattle.plan_rules.specs.Representation.{PlainAt, slot_of};
 ghost use Rattle.code_gen.specs.Scopes.{words, scope_with};
-ghost use Rattle.code_gen.specs.Settings.{setting};
+ghost use Rattle.code_gen.specs.Settings.{setting, callee_in};
 
+use crate::callees::{Called, own_function, used_function};
 use c_tree::{CTy, CVar, local_name_text};
-use core_tree::{GlobalRef, Node, Top, VarId};
-use scheme_data::{List, OutOfMemory, Text};
+use core_tree::{GlobalRef, Module, VarId};
+use scheme_data::{List, OutOfMemory};
 use std::alloc::Global;
 use std::collections::BTreeMap;
 use std::marker::Model;
@@ -93,52 +93,22 @@ impl<'a> Params<'a> {
     }
 }
 
-fn own_number(g: GlobalRef) -> u32
-    ensures { g ≡ Own result }
-{
-    match g {
-        GlobalRef::Own(n) => n,
-    }
-}
-
-/// Where statements stand: the module's name and functions, and the parameters of their function.
+/// Where statements stand: in a function of a module, with these parameters.
 #[derive(Drop)]
 pub struct Context<'a> {
-    pub module_name: &'a Text,
-    pub functions: &'a [Top],
+    pub in_module: &'a Module,
     pub params: Params<'a>,
 }
 
 impl<'a> Context<'a> {
     /// The function that is called.
-    pub fn function(&self, g: GlobalRef) -> &Top
-        requires { Defined (function_of (setting self.now).functions g) }
-        ensures { function_of (setting self.now).functions g ≡ Some (function_tree result.now) }
+    pub fn callee(&self, g: GlobalRef) -> Called<'_>
+        requires { IsFound (callee_of (setting self.now).in_module g) }
+        ensures { callee_of (setting self.now).in_module g ≡ Some (callee_in result) }
     {
-        &self.functions[own_number(g) as usize]
-    }
-}
-
-pub fn name_of(top: &Top) -> &Text
-    ensures { result.now ≡ (function_tree top.now).name }
-{
-    match top {
-        Top::Function(name, _) => name,
-    }
-}
-
-pub fn params_of(top: &Top) -> &[VarId]
-    ensures { result.now ≡ (function_tree top.now).params }
-{
-    match top {
-        Top::Function(_, lambda) => lambda.params.as_slice(),
-    }
-}
-
-pub fn body_of(top: &Top) -> &Node
-    ensures { tree result.now ≡ (function_tree top.now).body }
-{
-    match top {
-        Top::Function(_, lambda) => &lambda.body,
+        match g {
+            GlobalRef::Own(n) => own_function(self.in_module, n),
+            GlobalRef::Used(n) => used_function(self.in_module, n),
+        }
     }
 }

@@ -1,42 +1,74 @@
-ghost use Rattle.std.specs.Prelude.{◌≡◌, [], IfOk, OnOk};
-ghost use Rattle.core_tree.specs.Tree.{tree, module_tree, function_tree};
+ghost use Rattle.std.specs.Prelude.{◌≡◌, [], ◌∷◌, ◌++◌, map, IfOk, OnOk};
+ghost use Rattle.core_tree.specs.Tree.{tree, module_tree, function_tree, used_callees};
 ghost use Rattle.core_tree.specs.WellFormed.{IsWellFormed, IsFunction, AreFunctions};
 ghost use Rattle.c_tree.specs.Code.{Code};
 ghost use Rattle.c_tree.specs.Layout.{code_of};
 ghost use Rattle.c_tree.specs.Pieces.{pieces};
 ghost use Rattle.c_tree.specs.Functions.{items_of, item_of, fun_of};
-ghost use Rattle.plan_rules.specs.Translation.{Translated};
-ghost use Rattle.code_gen.specs.Settings.{setting, IsBodyIn};
-ghost use Rattle.code_gen.specs.Emission.{IsLooped, ArePieces, IsFunctionOf, declaration, declarations_of, AddsFunctions};
+ghost use Rattle.plan_rules.specs.Translation.{IsEmpty, Translated};
+ghost use Rattle.code_gen.specs.Settings.{setting, callee_in, IsBodyIn};
+ghost use Rattle.code_gen.specs.Emission.{IsLooped, ArePieces, IsFunctionOf, declaration, own_callees, declarations_of, AddsFunctions};
 
 use crate::bodies::body;
-use crate::context::{Context, Params, body_of, name_of, params_of};
+use crate::callees::{Called, body_of, params_of};
+use crate::context::{Context, Params};
 use crate::emitter::Emitter;
 use c_tree::{
-    CFun, CItem, CTy, CUnit, Layout, Piece, function_name_text, label_name_text, lay_out,
+    CAtom, CExpr, CFun, CItem, CTy, CUnit, Layout, Piece, initializer_name_text, label_name_text,
+    lay_out, maker_name_text,
 };
-use core_tree::{Module, Node, Top};
-use scheme_data::{List, OutOfMemory};
+use core_tree::{Module, Node, Top, Use};
+use scheme_data::{List, OutOfMemory, Text};
 use std::alloc::Global;
 
-fn declaration(alloc: Global, m: &Module, top: &Top) -> Result<CItem, OutOfMemory>
-    ensures { IfOk result (λ item. item_of item ≡ declaration (module_tree m.now).name (function_tree top.now)) }
+fn declaration(alloc: Global, called: &Called<'_>) -> Result<CItem, OutOfMemory>
+    ensures { IfOk result (λ item. item_of item ≡ declaration (callee_in called.now)) }
 {
     let mut params = List::new(alloc);
-    for _param in params_of(top) {
+    for _ in 0..called.params {
         params.push(CTy::Obj)?;
     }
-    let name = function_name_text(alloc, m.name.as_bytes(), name_of(top).as_bytes())?;
+    let name = called.c_name(alloc)?;
     Ok(CItem::Declared(CTy::Obj, name, params))
 }
 
+fn declare_own(alloc: Global, m: &Module, items: &mut List<CItem>) -> Result<(), OutOfMemory>
+    ensures { OnOk result (items_of items.new ≡ items_of items.old ++ map declaration (own_callees (module_tree m.now))) }
+{
+    for top in m.tops.as_slice() {
+        items.push(declaration(alloc, &Called::own(m, top))?)?;
+    }
+    Ok(())
+}
+
+// A function that is called is declared, and one that is only imported isn't.
+fn declare_use(alloc: Global, used: &Use, items: &mut List<CItem>) -> Result<(), OutOfMemory>
+    ensures { OnOk result (items_of items.new ≡ items_of items.old ++ map declaration (used_callees (used.now ∷ []))) }
+{
+    match used {
+        Use::From(module_name, row) => {
+            items.push(declaration(alloc, &Called::of_row(module_name, row))?)
+        }
+        Use::Need(_, _) => Ok(()),
+    }
+}
+
+fn declare_used(alloc: Global, uses: &[Use], items: &mut List<CItem>) -> Result<(), OutOfMemory>
+    ensures { OnOk result (items_of items.new ≡ items_of items.old ++ map declaration (used_callees uses.now)) }
+{
+    for used in uses {
+        declare_use(alloc, used, items)?;
+    }
+    Ok(())
+}
+
+// Declarations of the module's functions, and of those of other modules that it calls.
 fn declarations(alloc: Global, m: &Module) -> Result<List<CItem>, OutOfMemory>
     ensures { IfOk result (λ items. items_of items ≡ declarations_of (module_tree m.now)) }
 {
     let mut items = List::new(alloc);
-    for top in m.tops.as_slice() {
-        items.push(declaration(alloc, m, top)?)?;
-    }
+    declare_own(alloc, m, &mut items)?;
+    declare_used(alloc, m.uses.as_slice(), &mut items)?;
     Ok(items)
 }
 
@@ -65,19 +97,18 @@ fn laid(alloc: Global, ps: List<Piece>) -> Result<Layout, OutOfMemory>
 }
 
 fn definition(alloc: Global, m: &Module, top: &Top) -> Result<CFun, OutOfMemory>
-    requires { IsFunction (module_tree m.now).functions (function_tree top.now) }
+    requires { IsFunction (module_tree m.now) (function_tree top.now) }
     ensures { IfOk result (λ f. IsFunctionOf (module_tree m.now) (function_tree top.now) (fun_of f)) }
 {
     let ctx = Context {
-        module_name: &m.name,
-        functions: m.tops.as_slice(),
+        in_module: m,
         params: Params::new(alloc, params_of(top))?,
     };
     let Emitter { pieces, locals, .. } = looped(alloc, &ctx, body_of(top))?;
     let Layout { body, stmts, .. } = laid(alloc, pieces)?;
     Ok(CFun {
         result: CTy::Obj,
-        name: function_name_text(alloc, m.name.as_bytes(), name_of(top).as_bytes())?,
+        name: Called::own(m, top).c_name(alloc)?,
         params: ctx.params.variables(alloc)?,
         locals,
         body,
@@ -86,7 +117,7 @@ fn definition(alloc: Global, m: &Module, top: &Top) -> Result<CFun, OutOfMemory>
 }
 
 fn define_all(alloc: Global, m: &Module, items: &mut List<CItem>) -> Result<(), OutOfMemory>
-    requires { AreFunctions (module_tree m.now).functions (module_tree m.now).functions }
+    requires { AreFunctions (module_tree m.now) (module_tree m.now).functions }
     ensures { OnOk result (AddsFunctions (module_tree m.now) (module_tree m.now).functions (items_of items.old) (items_of items.new)) }
 {
     for top in m.tops.as_slice() {
@@ -96,6 +127,23 @@ fn define_all(alloc: Global, m: &Module, items: &mut List<CItem>) -> Result<(), 
     Ok(())
 }
 
+// A function that does nothing. The maker is one, since functions are no values yet, and so is the initialisation, since definitions are all forms that a module has.
+fn empty_function(alloc: Global, name: Text) -> Result<CFun, OutOfMemory>
+    ensures { IfOk result (λ f. IsEmpty name (fun_of f)) }
+{
+    let mut pieces = List::new(alloc);
+    pieces.push(Piece::Return(CExpr::Atom(CAtom::Unspec)))?;
+    let Layout { body, stmts, .. } = laid(alloc, pieces)?;
+    Ok(CFun {
+        result: CTy::Obj,
+        name,
+        params: List::new(alloc),
+        locals: List::new(alloc),
+        body,
+        stmts,
+    })
+}
+
 /// A unit that is a translation of the module.
 pub fn generate_unit(alloc: Global, m: &Module) -> Result<CUnit, OutOfMemory>
     requires { IsWellFormed (module_tree m.now) }
@@ -103,5 +151,9 @@ pub fn generate_unit(alloc: Global, m: &Module) -> Result<CUnit, OutOfMemory>
 {
     let mut items = declarations(alloc, m)?;
     define_all(alloc, m, &mut items)?;
+    let maker = empty_function(alloc, maker_name_text(alloc, m.name.as_bytes())?)?;
+    let initializer = empty_function(alloc, initializer_name_text(alloc, m.name.as_bytes())?)?;
+    items.push(CItem::Defined(maker))?;
+    items.push(CItem::Defined(initializer))?;
     Ok(CUnit { items })
 }

@@ -3,6 +3,7 @@
 
 mod bodies;
 mod branches;
+mod callees;
 mod calls;
 mod coercions;
 mod context;

@@ -5,7 +5,7 @@ ghost use Rattle.code_gen.specs.Settings.{setting, IsNode};
 ghost use Rattle.code_gen.specs.Emission.{IsValue, IsDelivered, GivesWord};
 
 use crate::branches::branches;
-use crate::calls::{own_call, primitive_call};
+use crate::calls::{function_call, primitive_call};
 use crate::coercions::{Coercion, coercion_to};
 use crate::context::Context;
 use crate::emitter::{Emitter, Held, Place};
@@ -36,7 +36,7 @@ pub fn value(ctx: &Context, e: &mut Emitter, node: &Node, wanted: Rep) -> Result
             delivered(ctx, e, node, Place::Into(held.local))?;
             Ok(held)
         }
-        Node::Call(g, nodes) => match own_call(ctx, e, *g, nodes.as_slice())? {
+        Node::Call(g, nodes) => match function_call(ctx, e, *g, nodes.as_slice())? {
             Some(call) => e.store(Rep::Obj, CExpr::Call(call)),
             None => e.unset(Rep::Obj),
         },
@@ -71,7 +71,7 @@ pub fn delivered(
         Node::If(test, first, second) => {
             branches(ctx, e, test.get(), first.get(), second.get(), place)
         }
-        Node::Call(g, nodes) => match own_call(ctx, e, *g, nodes.as_slice())? {
+        Node::Call(g, nodes) => match function_call(ctx, e, *g, nodes.as_slice())? {
             Some(call) => e.deliver(place, CExpr::Call(call)),
             None => Ok(()),
         },

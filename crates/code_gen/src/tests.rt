@@ -1,44 +1,47 @@
 // Small modules, and what is written for them.
-ghost use Rattle.std.specs.Prelude.{◌≡◌, ◌<◌, ◌≤◌, ◌∷◌, [], length, map, codes, IfOk};
+ghost use Rattle.std.specs.Prelude.{◌≡◌, ◌<◌, ◌∷◌, [], map, codes, IfOk};
 ghost use Rattle.scheme_data.specs.Fixnum.{IsFixnum};
 ghost use Rattle.core_tree.specs.Tree.{tree, trees, function_tree, module_tree};
 ghost use Rattle.core_tree.specs.WellFormed.{IsWellFormed};
-ghost use Rattle.code_gen.specs.Settings.{Setting, IsNode, AreNodes, IsBodyIn};
+ghost use Rattle.prim_table.specs.declared.primitives.Ty.TheVariants.{Obj};
+ghost use Rattle.iface_text.specs.declared.interface.RowKind.TheVariants.{Fun};
+ghost use Rattle.core_tree.specs.declared.tree.Use.TheVariants.{From, Need};
+ghost use Rattle.code_gen.specs.Settings.{Setting, IsBodyIn};
+ghost use Rattle.code_gen.specs.Samples.{Stands, AllStand, IsSampleBody};
 
 use crate::generate_unit;
 use c_tree::{
     CArg, CAtom, CCall, CExpr, CFun, CItem, CStmt, CTy, CUnit, Callee, PieceRef, op_name, pieces_in,
 };
-use core_tree::{Const, GlobalRef, Lambda, Module, Node, Top, VarId};
-use prim_table::Primitive;
+use core_tree::{Const, GlobalRef, ImportItem, Lambda, Module, Node, Top, Use, VarId};
+use iface_text::{Row, RowKind};
+use prim_table::{Primitive, Ty};
 use scheme_data::{List, OutOfMemory, Text, push_number};
 use sqlite_items::{Boxed, Items};
 use std::alloc::Global;
 
-// Nodes below have their place in a function whose only parameter is the variable 0, of a module with two functions.
-
 fn number(n: i64) -> Node
     requires { IsFixnum n }
-    ensures { (w : Setting) → 2 ≤ length w.functions → w.params ≡ record { 0 = 0 } ∷ [] → IsNode w (tree result) }
+    ensures { Stands (tree result) }
 {
     Node::Constant(Const::Int(n))
 }
 
 fn truth(b: bool) -> Node
-    ensures { (w : Setting) → 2 ≤ length w.functions → w.params ≡ record { 0 = 0 } ∷ [] → IsNode w (tree result) }
+    ensures { Stands (tree result) }
 {
     Node::Constant(Const::Bool(b))
 }
 
 fn parameter() -> Node
-    ensures { (w : Setting) → 2 ≤ length w.functions → w.params ≡ record { 0 = 0 } ∷ [] → IsNode w (tree result) }
+    ensures { Stands (tree result) }
 {
     Node::Variable(VarId(0))
 }
 
 fn one(alloc: Global, a: Node) -> Result<Items<Node>, OutOfMemory>
-    requires { (w : Setting) → 2 ≤ length w.functions → w.params ≡ record { 0 = 0 } ∷ [] → IsNode w (tree a) }
-    ensures { IfOk result (λ args. (w : Setting) → 2 ≤ length w.functions → w.params ≡ record { 0 = 0 } ∷ [] → AreNodes w (trees (map tree args))) }
+    requires { Stands (tree a) }
+    ensures { IfOk result (λ args. AllStand (trees (map tree args))) }
 {
     let mut args = Items::new(alloc);
     args.push(a)?;
@@ -46,9 +49,9 @@ fn one(alloc: Global, a: Node) -> Result<Items<Node>, OutOfMemory>
 }
 
 fn two(alloc: Global, a: Node, b: Node) -> Result<Items<Node>, OutOfMemory>
-    requires first { (w : Setting) → 2 ≤ length w.functions → w.params ≡ record { 0 = 0 } ∷ [] → IsNode w (tree a) }
-    requires second { (w : Setting) → 2 ≤ length w.functions → w.params ≡ record { 0 = 0 } ∷ [] → IsNode w (tree b) }
-    ensures { IfOk result (λ args. (w : Setting) → 2 ≤ length w.functions → w.params ≡ record { 0 = 0 } ∷ [] → AreNodes w (trees (map tree args))) }
+    requires first { Stands (tree a) }
+    requires second { Stands (tree b) }
+    ensures { IfOk result (λ args. AllStand (trees (map tree args))) }
 {
     let mut args = Items::new(alloc);
     args.push(a)?;
@@ -57,9 +60,9 @@ fn two(alloc: Global, a: Node, b: Node) -> Result<Items<Node>, OutOfMemory>
 }
 
 fn add(alloc: Global, a: Node, b: Node) -> Result<Node, OutOfMemory>
-    requires first { (w : Setting) → 2 ≤ length w.functions → w.params ≡ record { 0 = 0 } ∷ [] → IsNode w (tree a) }
-    requires second { (w : Setting) → 2 ≤ length w.functions → w.params ≡ record { 0 = 0 } ∷ [] → IsNode w (tree b) }
-    ensures { IfOk result (λ n. (w : Setting) → 2 ≤ length w.functions → w.params ≡ record { 0 = 0 } ∷ [] → IsNode w (tree n)) }
+    requires first { Stands (tree a) }
+    requires second { Stands (tree b) }
+    ensures { IfOk result (λ n. Stands (tree n)) }
 {
     let mut args = Items::new(alloc);
     args.push(a)?;
@@ -68,9 +71,9 @@ fn add(alloc: Global, a: Node, b: Node) -> Result<Node, OutOfMemory>
 }
 
 fn less(alloc: Global, a: Node, b: Node) -> Result<Node, OutOfMemory>
-    requires first { (w : Setting) → 2 ≤ length w.functions → w.params ≡ record { 0 = 0 } ∷ [] → IsNode w (tree a) }
-    requires second { (w : Setting) → 2 ≤ length w.functions → w.params ≡ record { 0 = 0 } ∷ [] → IsNode w (tree b) }
-    ensures { IfOk result (λ n. (w : Setting) → 2 ≤ length w.functions → w.params ≡ record { 0 = 0 } ∷ [] → IsNode w (tree n)) }
+    requires first { Stands (tree a) }
+    requires second { Stands (tree b) }
+    ensures { IfOk result (λ n. Stands (tree n)) }
 {
     let mut args = Items::new(alloc);
     args.push(a)?;
@@ -79,10 +82,10 @@ fn less(alloc: Global, a: Node, b: Node) -> Result<Node, OutOfMemory>
 }
 
 fn choose(alloc: Global, test: Node, first: Node, second: Node) -> Result<Node, OutOfMemory>
-    requires test_is { (w : Setting) → 2 ≤ length w.functions → w.params ≡ record { 0 = 0 } ∷ [] → IsNode w (tree test) }
-    requires first_is { (w : Setting) → 2 ≤ length w.functions → w.params ≡ record { 0 = 0 } ∷ [] → IsNode w (tree first) }
-    requires second_is { (w : Setting) → 2 ≤ length w.functions → w.params ≡ record { 0 = 0 } ∷ [] → IsNode w (tree second) }
-    ensures { IfOk result (λ n. (w : Setting) → 2 ≤ length w.functions → w.params ≡ record { 0 = 0 } ∷ [] → IsNode w (tree n)) }
+    requires test_is { Stands (tree test) }
+    requires first_is { Stands (tree first) }
+    requires second_is { Stands (tree second) }
+    ensures { IfOk result (λ n. Stands (tree n)) }
 {
     let test = Boxed::new(alloc, test)?;
     let first = Boxed::new(alloc, first)?;
@@ -91,8 +94,8 @@ fn choose(alloc: Global, test: Node, first: Node, second: Node) -> Result<Node, 
 }
 
 fn display(alloc: Global, a: Node) -> Result<Node, OutOfMemory>
-    requires { (w : Setting) → 2 ≤ length w.functions → w.params ≡ record { 0 = 0 } ∷ [] → IsNode w (tree a) }
-    ensures { IfOk result (λ n. (w : Setting) → 2 ≤ length w.functions → w.params ≡ record { 0 = 0 } ∷ [] → IsNode w (tree n)) }
+    requires { Stands (tree a) }
+    ensures { IfOk result (λ n. Stands (tree n)) }
 {
     let mut args = Items::new(alloc);
     args.push(a)?;
@@ -100,26 +103,33 @@ fn display(alloc: Global, a: Node) -> Result<Node, OutOfMemory>
 }
 
 fn newline(alloc: Global) -> Node
-    ensures { (w : Setting) → 2 ≤ length w.functions → w.params ≡ record { 0 = 0 } ∷ [] → IsNode w (tree result) }
+    ensures { Stands (tree result) }
 {
     Node::Primitive(Primitive::Newline, Items::new(alloc))
 }
 
+fn call_used(args: Items<Node>) -> Node
+    requires { AllStand (trees (map tree args)) }
+    ensures { Stands (tree result) }
+{
+    Node::Call(GlobalRef::Used(0), args)
+}
+
 fn call(f: u32, args: Items<Node>) -> Node
     requires function { f < 2 }
-    requires arguments { (w : Setting) → 2 ≤ length w.functions → w.params ≡ record { 0 = 0 } ∷ [] → AreNodes w (trees (map tree args)) }
-    ensures { (w : Setting) → 2 ≤ length w.functions → w.params ≡ record { 0 = 0 } ∷ [] → IsNode w (tree result) }
+    requires arguments { AllStand (trees (map tree args)) }
+    ensures { Stands (tree result) }
 {
     Node::Call(GlobalRef::Own(f), args)
 }
 
 // A function `go` that evaluates two expressions.
 fn go(alloc: Global, first: Node, last: Node) -> Result<Top, OutOfMemory>
-    requires first_is { (w : Setting) → 2 ≤ length w.functions → w.params ≡ record { 0 = 0 } ∷ [] → IsNode w (tree first) }
-    requires last_is { (w : Setting) → 2 ≤ length w.functions → w.params ≡ record { 0 = 0 } ∷ [] → IsNode w (tree last) }
+    requires first_is { Stands (tree first) }
+    requires last_is { Stands (tree last) }
     ensures name { IfOk result (λ t. (function_tree t).name ≡ codes "go") }
     ensures params { IfOk result (λ t. (function_tree t).params ≡ record { 0 = 0 } ∷ []) }
-    ensures body { IfOk result (λ t. (w : Setting) → 2 ≤ length w.functions → w.params ≡ record { 0 = 0 } ∷ [] → IsBodyIn w (function_tree t).body) }
+    ensures body { IfOk result (λ t. IsSampleBody (function_tree t).body) }
 {
     let mut params = List::new(alloc);
     params.push(VarId(0))?;
@@ -147,10 +157,47 @@ fn sum(alloc: Global) -> Result<Top, OutOfMemory>
     Ok(Top::Function(Text::from_bytes(alloc, b"sum")?, Lambda { params, body }))
 }
 
-// A module `hello` of these two functions.
+// The names `f` and `g` of a module `a`.
+fn imports(alloc: Global) -> Result<List<ImportItem>, OutOfMemory>
+    ensures { IfOk result (λ is. is ≡ record { module_name = codes "a"; names = codes "f" ∷ codes "g" ∷ [] } ∷ []) }
+{
+    let mut names = List::new(alloc);
+    names.push(Text::from_bytes(alloc, b"f")?)?;
+    names.push(Text::from_bytes(alloc, b"g")?)?;
+    let mut imports = List::new(alloc);
+    imports.push(ImportItem {
+        module_name: Text::from_bytes(alloc, b"a")?,
+        names,
+    })?;
+    Ok(imports)
+}
+
+// A function of one parameter.
+fn row(alloc: Global, name: &[u8]) -> Result<Row, OutOfMemory>
+    ensures { IfOk result (λ r. r ≡ record { name = name.now; kind = Fun (Obj ∷ []) Obj }) }
+{
+    let mut params = List::new(alloc);
+    params.push(Ty::Obj)?;
+    Ok(Row {
+        name: Text::from_bytes(alloc, name)?,
+        kind: RowKind::Fun(params, Ty::Obj),
+    })
+}
+
+// Of these functions `f` is called and `g` isn't.
+fn uses(alloc: Global) -> Result<List<Use>, OutOfMemory>
+    ensures { IfOk result (λ us. us ≡ From (codes "a") (record { name = codes "f"; kind = Fun (Obj ∷ []) Obj }) ∷ Need (codes "a") (record { name = codes "g"; kind = Fun (Obj ∷ []) Obj }) ∷ []) }
+{
+    let mut uses = List::new(alloc);
+    uses.push(Use::From(Text::from_bytes(alloc, b"a")?, row(alloc, b"f")?))?;
+    uses.push(Use::Need(Text::from_bytes(alloc, b"a")?, row(alloc, b"g")?))?;
+    Ok(uses)
+}
+
+// A module `hello` of the two functions, which uses the module `a`.
 fn module(alloc: Global, first: Node, last: Node) -> Result<Module, OutOfMemory>
-    requires first_is { (w : Setting) → 2 ≤ length w.functions → w.params ≡ record { 0 = 0 } ∷ [] → IsNode w (tree first) }
-    requires last_is { (w : Setting) → 2 ≤ length w.functions → w.params ≡ record { 0 = 0 } ∷ [] → IsNode w (tree last) }
+    requires first_is { Stands (tree first) }
+    requires last_is { Stands (tree last) }
     ensures { IfOk result (λ m. IsWellFormed (module_tree m)) }
 {
     let mut tops = List::new(alloc);
@@ -158,7 +205,10 @@ fn module(alloc: Global, first: Node, last: Node) -> Result<Module, OutOfMemory>
     tops.push(sum(alloc)?)?;
     Ok(Module {
         name: Text::from_bytes(alloc, b"hello")?,
+        imports: imports(alloc)?,
         tops,
+        uses: uses(alloc)?,
+        exports: List::new(alloc),
         main: Some(Text::from_bytes(alloc, b"go")?),
     })
 }
@@ -169,6 +219,7 @@ fn write_atom(out: &mut Text, a: &CAtom) -> Result<(), OutOfMemory> {
         CAtom::Name(x) => out.extend(x.as_bytes()),
         CAtom::True => out.extend(b"BGL_TRUE"),
         CAtom::False => out.extend(b"BGL_FALSE"),
+        CAtom::Unspec => out.extend(b"BGL_UNSPEC"),
         _ => out.extend(b"?"),
     }
 }
@@ -293,28 +344,30 @@ fn outline(alloc: Global, u: &CUnit, first: u64, end: u64) -> Result<Text, OutOf
 
 // What is written for `go`.
 fn written(alloc: Global, first: Node, last: Node) -> Result<Text, OutOfMemory>
-    requires first_is { (w : Setting) → 2 ≤ length w.functions → w.params ≡ record { 0 = 0 } ∷ [] → IsNode w (tree first) }
-    requires last_is { (w : Setting) → 2 ≤ length w.functions → w.params ≡ record { 0 = 0 } ∷ [] → IsNode w (tree last) }
+    requires first_is { Stands (tree first) }
+    requires last_is { Stands (tree last) }
 {
     let unit = generate_unit(alloc, &module(alloc, first, last)?)?;
-    outline(alloc, &unit, 2, 3)
+    outline(alloc, &unit, 3, 4)
 }
 
 fn counts(u: &CUnit) -> (u64, u64) {
-    let Some(CItem::Defined(f)) = u.items.get(2) else {
+    let Some(CItem::Defined(f)) = u.items.get(3) else {
         return (0, 0);
     };
     (f.locals.len(), f.stmts.len())
 }
 
 #[test]
-fn all_functions_are_declared_before_they_are_defined(rt: HostRuntime) -> Result<(), OutOfMemory> {
+fn what_may_be_called_is_declared_and_the_maker_and_the_initialisation_come_last(
+    rt: HostRuntime,
+) -> Result<(), OutOfMemory> {
     let alloc = rt.alloc();
     let unit = generate_unit(alloc, &module(alloc, number(1), number(-7))?)?;
     let text = outline(alloc, &unit, 0, 9)?;
     assert_eq!(rt;
         text.as_bytes(),
-        b"f_hello__go/1;f_hello__sum/2;f_hello__go:L0:{return bgl_box_long -7;}f_hello__sum:obj x2;obj x3;long x4;long x5;long x6;L0:{x2=x0;x3=x1;x4=bgl_unbox_long x2;x5=bgl_unbox_long x3;x6=bgl_p__2b x4 x5;return bgl_box_long x6;}".as_slice()
+        b"f_hello__go/1;f_hello__sum/2;f_a__f/1;f_hello__go:L0:{return bgl_box_long -7;}f_hello__sum:obj x2;obj x3;long x4;long x5;long x6;L0:{x2=x0;x3=x1;x4=bgl_unbox_long x2;x5=bgl_unbox_long x3;x6=bgl_p__2b x4 x5;return bgl_box_long x6;}c_hello:return BGL_UNSPEC;i_hello:return BGL_UNSPEC;".as_slice()
     );
     Ok(())
 }
@@ -368,6 +421,20 @@ fn a_function_calls_itself_and_its_parameter_is_returned(
     assert_eq!(rt;
         text.as_bytes(),
         b"f_hello__go:obj x1;L0:{x1=x0;f_hello__go x1;return x0;}".as_slice()
+    );
+    Ok(())
+}
+
+#[test]
+fn a_function_of_another_module_is_called_by_its_name_there(
+    rt: HostRuntime,
+) -> Result<(), OutOfMemory> {
+    let alloc = rt.alloc();
+    let called = call_used(one(alloc, number(1))?);
+    let text = written(alloc, called, call_used(Items::new(alloc)))?;
+    assert_eq!(rt;
+        text.as_bytes(),
+        b"f_hello__go:obj x1;L0:{x1=bgl_box_long 1;f_a__f x1;bgl_raise 2 \"1\";}".as_slice()
     );
     Ok(())
 }
@@ -442,7 +509,7 @@ fn an_if_may_be_a_test_and_a_block(rt: HostRuntime) -> Result<(), OutOfMemory> {
 }
 
 fn nested(alloc: Global, depth: u32) -> Result<Node, OutOfMemory>
-    ensures { IfOk result (λ n. (w : Setting) → 2 ≤ length w.functions → w.params ≡ record { 0 = 0 } ∷ [] → IsNode w (tree n)) }
+    ensures { IfOk result (λ n. Stands (tree n)) }
 {
     let mut sum = number(0);
     for _ in 0..depth {

@@ -1,19 +1,18 @@
-use Rattle.std.proofs.Common.{◌≡◌, sym, ◌∙◌, subst, ap, map, length, arith, List, Some, None}
+use Rattle.std.proofs.Common.{◌≡◌, sym, ◌∙◌, subst, ap, map, arith, List, Some, None}
 use Rattle.std.proofs.lemmas.Result.{IfOk-weaker, on_ok_weaker}
 use Rattle.prim_table.specs.declared.primitives.Ty.TheVariants.{Obj as Object}
 use Rattle.core_tree.specs.declared.tree.Node.{Node}
-use Rattle.core_tree.specs.Tree.{Tree, trees, tree, function_tree}
+use Rattle.core_tree.specs.Tree.{Tree, trees, tree}
 use Rattle.core_tree.specs.WellFormed.{AsMany}
-use Rattle.plan_rules.specs.Representation.{rep_of, raise_count}
-use Rattle.c_tree.specs.Names.{function_name}
+use Rattle.plan_rules.specs.Representation.{rep_of}
 use Rattle.plan_rules.specs.Translation.{objects}
-use Rattle.code_gen.specs.Settings.{setting}
+use Rattle.code_gen.specs.Settings.{setting, callee_in}
 use Rattle.code_gen.specs.declared.emitter.Place.TheVariants.{Into}
-use Rattle.code_gen.specs.Emission.{AreParameters, IsValue, IsDelivered, AreArguments, IsReady, IsPrimitiveCall, IsOwnCall}
+use Rattle.code_gen.specs.Emission.{AreParameters, IsValue, IsDelivered, AreArguments, IsReady, IsPrimitiveCall, IsFunctionCall}
 use Rattle.code_gen.proofs.Shapes.{weight-Primitive, weight-Call, weight_chosen, weight_at, tree-Constant, tree-Variable, tree-If, tree-Call, tree-Primitive, chosen_tree, chosen_parts, primitive_parts, call_parts, as_many_length, node_at, objects_are, objects_as_many, right_count, wrong_count}
 use Rattle.code_gen.proofs.Fitting.{primitive_parameters, object_parameters}
 use Rattle.code_gen.proofs.Values.{Arguing, arguing_none, arguing_one, arguing_all, held_length, ready_from}
-use Rattle.code_gen.proofs.Evaluated.{value_constant, value_variable, value_primitive, value_chosen, value_counted, value_miscounted, is_tested, own_counted, own_miscounted}
+use Rattle.code_gen.proofs.Evaluated.{value_constant, value_variable, value_primitive, value_chosen, value_counted, value_miscounted, is_tested, call_counted, call_miscounted}
 use Rattle.code_gen.proofs.Delivered.{delivered_constant, delivered_variable, delivered_primitive, delivered_counted, delivered_miscounted, delivered_if}
 use Rattle.code_gen.proofs.+values.Goals as goal
 
@@ -60,24 +59,23 @@ calls::ready-returns t c =
 
 -- Calls -------------------------------------------------------------------------------------
 
-pub calls::own_call-arguments-requires : goal.calls::own_call-arguments-requires
-calls::own_call-arguments-requires t c =
+pub calls::function_call-arguments-requires : goal.calls::function_call-arguments-requires
+calls::function_call-arguments-requires t c =
     let types_are : c.as_slice.result.now ≡ objects (trees (map tree c.args.nodes.now)) = c.as_slice.ensures ∙ c.in_ok-types.ensures ∙ objects_are c.args.nodes.now in
     (omega arith, (subst (λ ts. AsMany ts (trees (map tree c.args.nodes.now))) (sym types_are) (objects_as_many (trees (map tree c.args.nodes.now))), c.requires.expressions))
 
-pub calls::own_call-returns-then-nodes-want : goal.calls::own_call-returns-then-nodes-want
-calls::own_call-returns-then-nodes-want t c =
+pub calls::function_call-returns-then-nodes-called : goal.calls::function_call-returns-then-nodes-called
+calls::function_call-returns-then-nodes-called t c =
     let w = setting c.args.ctx.now in
-    let f = function_tree c.function-f.result.now in
+    let f = callee_in c.callee-called.result in
     let ns = trees (map tree c.args.nodes.now) in
     let types_are : c.as_slice.result.now ≡ objects ns = c.as_slice.ensures ∙ c.in_ok-types.ensures ∙ objects_are c.args.nodes.now in
-    let wrong : length c.args.nodes.now ≡ length f.params → ⊥ = λ same. c.if-nodes-want.true (same ∙ sym (ap length c.params_of-want.ensures)) in
-    own_miscounted w c.args.e.now c.arguments.new.e c.put.new.self c.args.g f ns c.in_ok-arguments.field-0 c.in_ok-raise.raise c.function-f.ensures (wrong_count f c.args.nodes.now wrong)
+    call_miscounted w c.args.e.now c.arguments.new.e c.put.new.self c.args.g f ns c.in_ok-arguments.field-0 c.in_ok-raise.raise c.callee-called.ensures (wrong_count f c.args.nodes.now c.if-nodes-called.true)
     (subst (λ ts. AreArguments w c.args.e.now c.arguments.new.e ts ns c.in_ok-arguments.field-0) types_are c.in_ok-arguments.ensures)
-    (c.in_ok-raise.ensures ∙ ap (λ ps. raise_count (length ps)) c.params_of-want.ensures) c.in_ok-put.ensures
+    c.in_ok-raise.ensures c.in_ok-put.ensures
 
-pub calls::own_call-ready-requires : goal.calls::own_call-ready-requires
-calls::own_call-ready-requires t c =
+pub calls::function_call-ready-requires : goal.calls::function_call-ready-requires
+calls::function_call-ready-requires t c =
     let objects_made : c.as_slice-2.result.now ≡ map (λ _. Object) c.args.nodes.now = c.as_slice-2.ensures ∙ c.in_ok-types.ensures in
     let types_are : c.as_slice-2.result.now ≡ objects (trees (map tree c.args.nodes.now)) = objects_made ∙ objects_are c.args.nodes.now in (
       omega arith,
@@ -87,21 +85,21 @@ calls::own_call-ready-requires t c =
       ),
     )
 
-pub calls::own_call-returns : goal.calls::own_call-returns
-calls::own_call-returns t c =
+pub calls::function_call-returns : goal.calls::function_call-returns
+calls::function_call-returns t c =
     let w = setting c.args.ctx.now in
-    let f = function_tree c.function-f.result.now in
+    let f = callee_in c.callee-called.result in
     let ns = trees (map tree c.args.nodes.now) in
     let types_are : c.as_slice-2.result.now ≡ objects ns = c.as_slice-2.ensures ∙ c.in_ok-types.ensures ∙ objects_are c.args.nodes.now in
-    own_counted w c.args.e.now c.ready.new.e c.args.g f ns c.in_ok-name.name c.in_ok-args.args c.function-f.ensures
-    (right_count f c.args.nodes.now (c.if-nodes-want.false ∙ ap length c.params_of-want.ensures))
+    call_counted w c.args.e.now c.ready.new.e c.args.g f ns c.in_ok-name.name c.in_ok-args.args c.callee-called.ensures
+    (right_count f c.args.nodes.now c.if-nodes-called.false)
     (subst (λ ts. IsReady w c.args.e.now c.ready.new.e ts ns c.in_ok-args.args) types_are c.in_ok-args.ensures)
-    (c.in_ok-name.ensures.value ∙ ap (λ m. function_name m c.as_bytes-2.result.now) c.as_bytes.ensures ∙ ap (function_name w.module_name) (c.as_bytes-2.ensures ∙ c.name_of.ensures))
+    c.in_ok-name.ensures
 
 -- Values ------------------------------------------------------------------------------------
 
-pub nodes::value-own_call-requires : goal.nodes::value-own_call-requires
-nodes::value-own_call-requires t c =
+pub nodes::value-function_call-requires : goal.nodes::value-function_call-requires
+nodes::value-function_call-requires t c =
     let parts = call_parts (setting c.args.ctx.now) c.args.node.now c.in-Call.g c.in-Call.nodes c.as_slice.result.now c.in-Call.is c.as_slice.ensures c.requires in
     let less = weight-Call c.args.node.now c.in-Call.g c.in-Call.nodes c.as_slice.result.now c.in-Call.is c.as_slice.ensures in
     (omega (arith, less), (parts.0, parts.1))
@@ -143,22 +141,22 @@ pub nodes::value-returns-in-Some : goal.nodes::value-returns-in-Some
 nodes::value-returns-in-Some t c =
     let w = setting c.args.ctx.now in
     let ns = c.in-Call.nodes in
-    let called : IsOwnCall w c.args.e.now c.own_call.new.e c.in-Call.g (trees (map tree ns)) (Some c.in-Some.call) =
-    subst (λ (ms : List Node). IsOwnCall w c.args.e.now c.own_call.new.e c.in-Call.g (trees (map tree ms)) (Some c.in-Some.call)) c.as_slice.ensures (rw c.in-Some.is at c.in_ok-call-in-Call.ensures) in
+    let called : IsFunctionCall w c.args.e.now c.function_call.new.e c.in-Call.g (trees (map tree ns)) (Some c.in-Some.call) =
+    subst (λ (ms : List Node). IsFunctionCall w c.args.e.now c.function_call.new.e c.in-Call.g (trees (map tree ms)) (Some c.in-Some.call)) c.as_slice.ensures (rw c.in-Some.is at c.in_ok-call-in-Call.ensures) in
     IfOk-weaker c.store-in-Some.result _ _
     (λ held stored. subst (λ (n : Tree). IsValue w c.args.e.now c.store-in-Some.new.self n c.args.wanted held) (sym (ap tree c.in-Call.is ∙ tree-Call c.in-Call.g ns))
-    (value_counted w c.args.e.now c.own_call.new.e c.store-in-Some.new.self c.in-Call.g (trees (map tree ns)) c.args.wanted c.in-Some.call held called stored))
+    (value_counted w c.args.e.now c.function_call.new.e c.store-in-Some.new.self c.in-Call.g (trees (map tree ns)) c.args.wanted c.in-Some.call held called stored))
     c.store-in-Some.ensures
 
 pub nodes::value-returns-in-None : goal.nodes::value-returns-in-None
 nodes::value-returns-in-None t c =
     let w = setting c.args.ctx.now in
     let ns = c.in-Call.nodes in
-    let called : IsOwnCall w c.args.e.now c.own_call.new.e c.in-Call.g (trees (map tree ns)) None =
-    subst (λ (ms : List Node). IsOwnCall w c.args.e.now c.own_call.new.e c.in-Call.g (trees (map tree ms)) None) c.as_slice.ensures (rw c.in-None.is at c.in_ok-call-in-Call.ensures) in
+    let called : IsFunctionCall w c.args.e.now c.function_call.new.e c.in-Call.g (trees (map tree ns)) None =
+    subst (λ (ms : List Node). IsFunctionCall w c.args.e.now c.function_call.new.e c.in-Call.g (trees (map tree ms)) None) c.as_slice.ensures (rw c.in-None.is at c.in_ok-call-in-Call.ensures) in
     IfOk-weaker c.unset-in-None.result _ _
     (λ held unset. subst (λ (n : Tree). IsValue w c.args.e.now c.unset-in-None.new.self n c.args.wanted held) (sym (ap tree c.in-Call.is ∙ tree-Call c.in-Call.g ns))
-    (value_miscounted w c.args.e.now c.own_call.new.e c.unset-in-None.new.self c.in-Call.g (trees (map tree ns)) c.args.wanted held called unset))
+    (value_miscounted w c.args.e.now c.function_call.new.e c.unset-in-None.new.self c.in-Call.g (trees (map tree ns)) c.args.wanted held called unset))
     c.unset-in-None.ensures
 
 pub nodes::value-returns-in_ok-call-in-Primitive : goal.nodes::value-returns-in_ok-call-in-Primitive
@@ -184,8 +182,8 @@ nodes::delivered-branches-requires t c =
     let less = weight_chosen n a b d c.get.result.now c.get-in-If.result.now c.get-in-If-2.result.now c.in-If.is c.get.ensures c.get-in-If.ensures c.get-in-If-2.ensures in
     (omega (arith, less), chosen_parts (setting c.args.ctx.now) n a b d c.get.result.now c.get-in-If.result.now c.get-in-If-2.result.now c.in-If.is c.get.ensures c.get-in-If.ensures c.get-in-If-2.ensures c.requires)
 
-pub nodes::delivered-own_call-requires : goal.nodes::delivered-own_call-requires
-nodes::delivered-own_call-requires t c =
+pub nodes::delivered-function_call-requires : goal.nodes::delivered-function_call-requires
+nodes::delivered-function_call-requires t c =
     let parts = call_parts (setting c.args.ctx.now) c.args.node.now c.in-Call.g c.in-Call.nodes c.as_slice.result.now c.in-Call.is c.as_slice.ensures c.requires in
     let less = weight-Call c.args.node.now c.in-Call.g c.in-Call.nodes c.as_slice.result.now c.in-Call.is c.as_slice.ensures in
     (omega (arith, less), (parts.0, parts.1))
@@ -224,21 +222,21 @@ pub nodes::delivered-returns-in-Some : goal.nodes::delivered-returns-in-Some
 nodes::delivered-returns-in-Some t c =
     let w = setting c.args.ctx.now in
     let ns = c.in-Call.nodes in
-    let called : IsOwnCall w c.args.e.now c.own_call.new.e c.in-Call.g (trees (map tree ns)) (Some c.in-Some.call) =
-    subst (λ (ms : List Node). IsOwnCall w c.args.e.now c.own_call.new.e c.in-Call.g (trees (map tree ms)) (Some c.in-Some.call)) c.as_slice.ensures (rw c.in-Some.is at c.in_ok-call-in-Call.ensures) in
+    let called : IsFunctionCall w c.args.e.now c.function_call.new.e c.in-Call.g (trees (map tree ns)) (Some c.in-Some.call) =
+    subst (λ (ms : List Node). IsFunctionCall w c.args.e.now c.function_call.new.e c.in-Call.g (trees (map tree ms)) (Some c.in-Some.call)) c.as_slice.ensures (rw c.in-Some.is at c.in_ok-call-in-Call.ensures) in
     on_ok_weaker c.deliver-in-Some.result
     (λ puts. subst (λ (n : Tree). IsDelivered w c.args.e.now c.deliver-in-Some.new.self n c.args.place) (sym (ap tree c.in-Call.is ∙ tree-Call c.in-Call.g ns))
-    (delivered_counted w c.args.e.now c.own_call.new.e c.deliver-in-Some.new.self c.in-Call.g (trees (map tree ns)) c.in-Some.call c.args.place called puts))
+    (delivered_counted w c.args.e.now c.function_call.new.e c.deliver-in-Some.new.self c.in-Call.g (trees (map tree ns)) c.in-Some.call c.args.place called puts))
     c.deliver-in-Some.ensures
 
 pub nodes::delivered-returns-in-None : goal.nodes::delivered-returns-in-None
 nodes::delivered-returns-in-None t c =
     let w = setting c.args.ctx.now in
     let ns = c.in-Call.nodes in
-    let called : IsOwnCall w c.args.e.now c.own_call.new.e c.in-Call.g (trees (map tree ns)) None =
-    subst (λ (ms : List Node). IsOwnCall w c.args.e.now c.own_call.new.e c.in-Call.g (trees (map tree ms)) None) c.as_slice.ensures (rw c.in-None.is at c.in_ok-call-in-Call.ensures) in
-    subst (λ (n : Tree). IsDelivered w c.args.e.now c.own_call.new.e n c.args.place) (sym (ap tree c.in-Call.is ∙ tree-Call c.in-Call.g ns))
-    (delivered_miscounted w c.args.e.now c.own_call.new.e c.in-Call.g (trees (map tree ns)) c.args.place called)
+    let called : IsFunctionCall w c.args.e.now c.function_call.new.e c.in-Call.g (trees (map tree ns)) None =
+    subst (λ (ms : List Node). IsFunctionCall w c.args.e.now c.function_call.new.e c.in-Call.g (trees (map tree ms)) None) c.as_slice.ensures (rw c.in-None.is at c.in_ok-call-in-Call.ensures) in
+    subst (λ (n : Tree). IsDelivered w c.args.e.now c.function_call.new.e n c.args.place) (sym (ap tree c.in-Call.is ∙ tree-Call c.in-Call.g ns))
+    (delivered_miscounted w c.args.e.now c.function_call.new.e c.in-Call.g (trees (map tree ns)) c.args.place called)
 
 pub nodes::delivered-returns-in_ok-call-in-Primitive : goal.nodes::delivered-returns-in_ok-call-in-Primitive
 nodes::delivered-returns-in_ok-call-in-Primitive t c =

@@ -20,8 +20,8 @@ decreases-branches::branches l = 5 * (weight (tree l.test.now) + (weight (tree l
 abbrev pub decreases-calls::primitive_call : goal.decreases-calls::primitive_call
 decreases-calls::primitive_call l = 5 * weights (trees (map tree l.nodes.now)) + 4
 
-abbrev pub decreases-calls::own_call : goal.decreases-calls::own_call
-decreases-calls::own_call l = 5 * weights (trees (map tree l.nodes.now)) + 4
+abbrev pub decreases-calls::function_call : goal.decreases-calls::function_call
+decreases-calls::function_call l = 5 * weights (trees (map tree l.nodes.now)) + 4
 
 abbrev pub decreases-calls::ready : goal.decreases-calls::ready
 decreases-calls::ready l = 5 * weights (trees (map tree l.nodes.now)) + 3

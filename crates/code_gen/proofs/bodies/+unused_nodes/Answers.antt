@@ -3,7 +3,7 @@ use Rattle.std.proofs.lemmas.Result.{on_ok_weaker}
 use Rattle.core_tree.specs.declared.tree.Node.{Node}
 use Rattle.core_tree.specs.Tree.{Tree, trees, tree}
 use Rattle.code_gen.specs.Settings.{setting}
-use Rattle.code_gen.specs.Emission.{IsPrimitiveCall, IsOwnCall, IsUnused}
+use Rattle.code_gen.specs.Emission.{IsPrimitiveCall, IsFunctionCall, IsUnused}
 use Rattle.code_gen.proofs.Places.{Found, found}
 use Rattle.code_gen.proofs.Shapes.{tree-Constant, tree-Variable, tree-Call, tree-Primitive, variable_part, chosen_tree, chosen_parts, weight_chosen}
 use Rattle.code_gen.proofs.Walks.{unused_constant, unused_variable, unused_counted, unused_miscounted, unused_primitive, unused_if}
@@ -26,21 +26,21 @@ pub unused-returns-in-Some : goal.unused-returns-in-Some
 unused-returns-in-Some t c =
     let w = setting c.args.ctx.now in
     let ns = c.in-Call.nodes in
-    let called : IsOwnCall w c.args.e.now c.own_call.new.e c.in-Call.g (trees (map tree ns)) (Some c.in-Some.call) =
-    subst (λ (ms : List Node). IsOwnCall w c.args.e.now c.own_call.new.e c.in-Call.g (trees (map tree ms)) (Some c.in-Some.call)) c.as_slice.ensures (rw c.in-Some.is at c.in_ok-call-in-Call.ensures) in
+    let called : IsFunctionCall w c.args.e.now c.function_call.new.e c.in-Call.g (trees (map tree ns)) (Some c.in-Some.call) =
+    subst (λ (ms : List Node). IsFunctionCall w c.args.e.now c.function_call.new.e c.in-Call.g (trees (map tree ms)) (Some c.in-Some.call)) c.as_slice.ensures (rw c.in-Some.is at c.in_ok-call-in-Call.ensures) in
     on_ok_weaker c.put.result
     (λ puts. subst (λ (n : Tree). IsUnused w c.args.e.now c.put.new.self n) (sym (ap tree c.in-Call.is ∙ tree-Call c.in-Call.g ns))
-    (unused_counted w c.args.e.now c.own_call.new.e c.put.new.self c.in-Call.g (trees (map tree ns)) c.in-Some.call called puts))
+    (unused_counted w c.args.e.now c.function_call.new.e c.put.new.self c.in-Call.g (trees (map tree ns)) c.in-Some.call called puts))
     c.put.ensures
 
 pub unused-returns-in-None : goal.unused-returns-in-None
 unused-returns-in-None t c =
     let w = setting c.args.ctx.now in
     let ns = c.in-Call.nodes in
-    let called : IsOwnCall w c.args.e.now c.own_call.new.e c.in-Call.g (trees (map tree ns)) None =
-    subst (λ (ms : List Node). IsOwnCall w c.args.e.now c.own_call.new.e c.in-Call.g (trees (map tree ms)) None) c.as_slice.ensures (rw c.in-None.is at c.in_ok-call-in-Call.ensures) in
-    subst (λ (n : Tree). IsUnused w c.args.e.now c.own_call.new.e n) (sym (ap tree c.in-Call.is ∙ tree-Call c.in-Call.g ns))
-    (unused_miscounted w c.args.e.now c.own_call.new.e c.in-Call.g (trees (map tree ns)) called)
+    let called : IsFunctionCall w c.args.e.now c.function_call.new.e c.in-Call.g (trees (map tree ns)) None =
+    subst (λ (ms : List Node). IsFunctionCall w c.args.e.now c.function_call.new.e c.in-Call.g (trees (map tree ms)) None) c.as_slice.ensures (rw c.in-None.is at c.in_ok-call-in-Call.ensures) in
+    subst (λ (n : Tree). IsUnused w c.args.e.now c.function_call.new.e n) (sym (ap tree c.in-Call.is ∙ tree-Call c.in-Call.g ns))
+    (unused_miscounted w c.args.e.now c.function_call.new.e c.in-Call.g (trees (map tree ns)) called)
 
 pub unused-returns-in_ok-call-in-Primitive : goal.unused-returns-in_ok-call-in-Primitive
 unused-returns-in_ok-call-in-Primitive t c =

@@ -9,7 +9,7 @@ definition-requires c =
     let m = module_tree c.args.m.now in
     let within : c.loop-top.top-index < length c.args.m.now.tops = rw (sym c.as_slice-top-items.ensures) c.loop-top-test.true in
     let is : c.top-item.result ≡ get_or c.args.m.now.tops c.loop-top.top-index c.top-item.result = c.top-item.is ∙ ap (λ ts. get_or ts c.loop-top.top-index c.top-item.result) c.as_slice-top-items.ensures in
-    function_at m.functions c.args.m.now.tops c.loop-top.top-index c.top-item.result within is c.requires
+    function_at m c.args.m.now.tops c.loop-top.top-index c.top-item.result within is c.requires
 
 pub loop-top-preserved : goal.loop-top-preserved
 loop-top-preserved c =

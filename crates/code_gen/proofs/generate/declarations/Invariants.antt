@@ -1,8 +1,0 @@
-use Rattle.std.proofs.Common.{◌≡◌, map, take}
-use Rattle.core_tree.specs.Tree.{function_tree}
-use Rattle.c_tree.specs.Functions.{items_of}
-use Rattle.code_gen.specs.Emission.{declaration}
-use Rattle.code_gen.proofs.generate.declarations.Given as goal
-
-abbrev pub invariant-loop-top : goal.invariant-loop-top
-invariant-loop-top l = items_of l.items ≡ map (declaration l.m.name) (map function_tree (take l.top-index l.m.tops))
