@@ -1,3 +1,9 @@
 pub mod Cuts
-pub mod Lines
+pub mod HeaderLines
+pub mod HeaderParts
 pub mod Objects
+pub mod Orders
+pub mod Rows
+pub mod Runs
+pub mod Starts
+pub mod Writings

@@ -1,89 +1,122 @@
 // The lines before the unit.
-ghost use Rattle.std.specs.Prelude.{◌≡◌, ◌≢◌, ◌≤◌, ◌++◌, ℕ, List, length, IsTrue, ◌↔◌, IfSome, IfNone};
-ghost use Rattle.std.specs.List.{prefix_len};
-ghost use Rattle.scheme_data.specs.Symbols.{is_symbol_byte, IsName};
-ghost use Rattle.object_text.specs.Format.{object_lines};
-ghost use Rattle.object_text.specs.Header.{IsNamed, NotNamed};
+ghost use Rattle.std.specs.Prelude.{◌≡◌, ◌++◌, [], IfOk, OnOk, IfSome, IfNone};
+ghost use Rattle.iface_text.specs.Format.{ended};
+ghost use Rattle.core_tree.specs.WellFormed.{are_ordered};
+ghost use Rattle.object_text.specs.Format.{object_tree, header_lines};
+ghost use Rattle.object_text.specs.Header.{are_new};
+ghost use Rattle.object_text.specs.Headers.{tree_of, AreLines, BeginsWith, OnlyLines, NoLines, OnlyHeader, NoHeader};
 
-/// The module's name, the main function's name, and the text of the unit.
+use crate::lines::{read_main, write_main};
+use crate::names::named_after;
+use crate::object::Object;
+use crate::parts::{read_run, write_run};
+use core_tree::{ImportItem, Use};
+use iface_text::Row;
+use name_table::NameTable;
+use scheme_data::{List, OutOfMemory, Text};
+use std::alloc::Global;
+
+/// What the lines before the unit tell, and the text of the unit.
 #[derive(Drop)]
-pub struct Parts<'a> {
-    pub module_name: &'a [u8],
-    pub main: &'a [u8],
+pub struct Header<'a> {
+    pub module_name: Text,
+    pub imports: List<ImportItem>,
+    pub uses: List<Use>,
+    pub exports: List<Row>,
+    pub main: Option<Text>,
     pub unit: &'a [u8],
 }
 
-/// A name, and what follows it.
-#[derive(Drop)]
-struct Named<'a> {
-    name: &'a [u8],
-    rest: &'a [u8],
-}
-
-fn is_symbol(b: u8) -> bool
-    ensures { result ≡ is_symbol_byte b }
+/// Whether what is called comes before what is imported besides.
+fn is_ordered(uses: &[Use]) -> bool
+    ensures { result ≡ are_ordered uses.now }
 {
-    b.is_ascii_alphanumeric()
-        || matches!(
-            b,
-            b'!' | b'$'
-                | b'%'
-                | b'&'
-                | b'*'
-                | b'/'
-                | b':'
-                | b'<'
-                | b'='
-                | b'>'
-                | b'?'
-                | b'^'
-                | b'_'
-                | b'~'
-                | b'+'
-                | b'-'
-                | b'.'
-                | b'@'
-        )
-}
-
-fn symbol_len(bytes: &[u8]) -> usize
-    ensures value { result ≡ prefix_len is_symbol_byte bytes.now }
-    ensures within { result ≤ length bytes.now }
-{
-    let mut n = 0;
-    while n < bytes.len() && is_symbol(bytes[n]) {
-        n += 1;
+    let mut needs = false;
+    for used in uses {
+        match used {
+            Use::Need(_, _) => needs = true,
+            Use::From(_, _) => {
+                if needs {
+                    return false;
+                }
+            }
+        }
     }
-    n
+    true
 }
 
-/// The name after a front; none where there is no such front, or no name.
-fn named_after<'a>(bytes: &'a [u8], front: &[u8]) -> Option<Named<'a>>
-    ensures some { IfSome result (λ n. IsNamed bytes.now front.now n.name.now n.rest.now) }
-    ensures none { IfNone result (NotNamed bytes.now front.now) }
+/// Whether no two rows have one name.
+fn are_distinct(alloc: Global, rows: &[Row]) -> Result<bool, OutOfMemory>
+    ensures { IfOk result (λ distinct. distinct ≡ are_new [] rows.now) }
 {
-    let after = bytes.strip_prefix(front)?;
-    let len = symbol_len(after);
-    if len == 0 || len > 255 {
-        return None;
+    let mut names = NameTable::new(alloc);
+    for row in rows {
+        if !names.insert(row.name.as_bytes())? {
+            return Ok(false);
+        }
     }
-    let (name, rest) = after.split_at(len);
-    Some(Named { name, rest })
+    Ok(true)
 }
 
-/// The parts of an object's text; none where it isn't one.
-pub fn parts_of(bytes: &[u8]) -> Option<Parts<'_>>
-    ensures some { IfSome result (λ p. bytes.now ≡ object_lines p.module_name.now p.main.now p.unit.now) }
-    ensures module_name { IfSome result (λ p. IsName p.module_name.now) }
-    ensures main { IfSome result (λ p. IsName p.main.now) }
-    ensures none { IfNone result ((m f unit : List ℕ) → IsName m → IsName f → bytes.now ≢ object_lines m f unit) }
+/// What the lines tell one by one; none where they aren't such lines.
+fn read_lines<'a>(alloc: Global, bytes: &'a [u8]) -> Result<Option<Header<'a>>, OutOfMemory>
+    ensures some { IfOk result (λ header. IfSome header (λ h. AreLines bytes.now (tree_of h []) h.unit.now)) }
+    ensures only { IfOk result (λ header. IfSome header (λ h. OnlyLines bytes.now h)) }
+    ensures none { IfOk result (λ header. IfNone header (NoLines bytes.now)) }
 {
-    let module_name = named_after(bytes, b"bigloo-object 1\nmodule ")?;
-    let main = named_after(module_name.rest, b"\nmain fun ")?;
-    let unit = main.rest.strip_prefix(b" (obj) obj\ncode\n".as_slice())?;
-    Some(Parts {
-        module_name: module_name.name,
+    let Some(named) = named_after(bytes, b"bigloo-object 1\nmodule ") else {
+        return Ok(None);
+    };
+    let Some(rest) = named.rest.strip_prefix(b"\n") else {
+        return Ok(None);
+    };
+    let imports = read_run::<ImportItem>(alloc, rest)?;
+    let uses = read_run::<Use>(alloc, imports.rest)?;
+    let exports = read_run::<Row>(alloc, uses.rest)?;
+    let main = read_main(alloc, exports.rest)?;
+    let Some(unit) = main.rest.strip_prefix(b"code\n") else {
+        return Ok(None);
+    };
+    let module_name = Text::from_bytes(alloc, named.name)?;
+    Ok(Some(Header {
+        module_name,
+        imports: imports.parts,
+        uses: uses.parts,
+        exports: exports.parts,
         main: main.name,
         unit,
-    })
+    }))
+}
+
+/// The header with which the bytes begin; none where they begin with no object's.
+pub fn read_header<'a>(alloc: Global, bytes: &'a [u8]) -> Result<Option<Header<'a>>, OutOfMemory>
+    ensures some { IfOk result (λ header. IfSome header (λ h. BeginsWith bytes.now (tree_of h []) h.unit.now)) }
+    ensures only { IfOk result (λ header. IfSome header (λ h. OnlyHeader bytes.now h)) }
+    ensures none { IfOk result (λ header. IfNone header (NoHeader bytes.now)) }
+{
+    let Some(header) = read_lines(alloc, bytes)? else {
+        return Ok(None);
+    };
+    if !is_ordered(header.uses.as_slice()) {
+        return Ok(None);
+    }
+    if !are_distinct(alloc, header.exports.as_slice())? {
+        return Ok(None);
+    }
+    Ok(Some(header))
+}
+
+/// Adds the lines before the unit at the end of a text.
+pub fn write_header(text: &mut Text, o: &Object) -> Result<(), OutOfMemory>
+    ensures { OnOk result (text.new ≡ text.old ++ ended (header_lines (object_tree o.now))) }
+{
+    text.extend(b"bigloo-object 1\nmodule ")?;
+    text.extend(o.module_name.as_bytes())?;
+    text.push(b'\n')?;
+    write_run(text, o.imports.as_slice())?;
+    write_run(text, o.uses.as_slice())?;
+    write_run(text, o.exports.as_slice())?;
+    write_main(text, &o.main)?;
+    text.extend(b"code\n")?;
+    Ok(())
 }

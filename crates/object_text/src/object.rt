@@ -1,19 +1,24 @@
-ghost use Rattle.std.specs.Prelude.{◌≡◌, IfOk, IfErr};
+ghost use Rattle.std.specs.Prelude.{◌≡◌, IfOk};
 ghost use Rattle.object_text.specs.Format.{ObjectTree, ObjectText, object_tree, CanBeWritten};
 ghost use Rattle.object_text.specs.Answers.{ReadsObject, GivesObject};
 
-use crate::header::parts_of;
+use crate::header::{read_header, write_header};
 use c_read::{CReadErr, read_unit};
 use c_tree::CUnit;
 use c_write::write_unit;
-use scheme_data::{OutOfMemory, Text};
+use core_tree::{ImportItem, Use};
+use iface_text::Row;
+use scheme_data::{List, OutOfMemory, Text};
 use std::alloc::Global;
 
-/// What the compiler makes of a module.
+/// What the compiler makes of a module: its name, its import items, what it takes from other modules, the rows of what it exports, the name of its main function, if it has one, and its C.
 #[derive(Drop)]
 pub struct Object {
     pub module_name: Text,
-    pub main: Text,
+    pub imports: List<ImportItem>,
+    pub uses: List<Use>,
+    pub exports: List<Row>,
+    pub main: Option<Text>,
     pub unit: CUnit,
 }
 
@@ -42,11 +47,8 @@ pub fn write_object(alloc: Global, o: &Object) -> Result<Text, OutOfMemory>
     ensures { IfOk result (λ text. ObjectText text (object_tree o.now)) }
 {
     let unit = write_unit(alloc, &o.unit)?;
-    let mut text = Text::from_bytes(alloc, b"bigloo-object 1\nmodule ")?;
-    text.extend(o.module_name.as_bytes())?;
-    text.extend(b"\nmain fun ")?;
-    text.extend(o.main.as_bytes())?;
-    text.extend(b" (obj) obj\ncode\n")?;
+    let mut text = Text::new(alloc);
+    write_header(&mut text, o)?;
     text.extend(unit.as_bytes())?;
     Ok(text)
 }
@@ -58,25 +60,19 @@ pub fn read_object(alloc: Global, b: &[u8]) -> Result<Object, ObjectErr>
     // The object of the text is what is read, unless memory runs out.
     ensures given { (o : ObjectTree) → ObjectText b.now o → GivesObject o result }
 {
-    let Some(parts) = parts_of(b) else {
+    let Some(header) = read_header(alloc, b)? else {
         return Err(ObjectErr::NotObject);
     };
-    match read_unit(alloc, parts.unit) {
-        Ok(unit) => object_of(alloc, parts.module_name, parts.main, unit),
+    match read_unit(alloc, header.unit) {
+        Ok(unit) => Ok(Object {
+            module_name: header.module_name,
+            imports: header.imports,
+            uses: header.uses,
+            exports: header.exports,
+            main: header.main,
+            unit,
+        }),
         Err(CReadErr::NotC) => Err(ObjectErr::NotObject),
         Err(CReadErr::Memory) => Err(ObjectErr::Memory),
     }
-}
-
-fn object_of(alloc: Global, name: &[u8], main: &[u8], unit: CUnit) -> Result<Object, ObjectErr>
-    ensures ok { IfOk result (λ o. o ≡ record { module_name = name.now; main = main.now; unit = unit }) }
-    ensures err { IfErr result (λ e. e ≡ ObjectErr.Memory) }
-{
-    let module_name = Text::from_bytes(alloc, name)?;
-    let main = Text::from_bytes(alloc, main)?;
-    Ok(Object {
-        module_name,
-        main,
-        unit,
-    })
 }

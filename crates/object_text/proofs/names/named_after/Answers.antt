@@ -2,8 +2,8 @@ use Rattle.std.proofs.Common.{◌≡◌, ℕ, ◌++◌, Some, arith, sym, ◌∙
 use Rattle.std.proofs.lemmas.Bool.Decides.{Decides-eqb}
 use Rattle.std.proofs.lemmas.Slice.Eq.{strip_prefix_is}
 use Rattle.object_text.proofs.Cuts.{no_front, too_short, too_long, run_named}
-use Rattle.object_text.proofs.header.named_after.Goals as goal
-use Rattle.object_text.proofs.header.named_after.Goals.{then-len-eq0-via-then-len-eq0, then-len-eq0-via-else-len-eq0+then-len-gt255}
+use Rattle.object_text.proofs.names.named_after.Goals as goal
+use Rattle.object_text.proofs.names.named_after.Goals.{then-len-eq0-via-then-len-eq0, then-len-eq0-via-else-len-eq0+then-len-gt255}
 
 pub returns-in_err-after-clause-none : goal.returns-in_err-after-clause-none
 returns-in_err-after-clause-none c = rw c.from_residual.ensures (no_front c.args.bytes.now c.args.front.now c.in_err-after.ensures.cases)
