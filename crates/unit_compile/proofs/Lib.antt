@@ -1,1 +1,3 @@
-pub mod Programs
+pub mod Interfaces
+pub mod Objects
+pub mod Units

@@ -1,54 +1,100 @@
--- The module of a source, and the object that it is compiled to.
-use Rattle.std.specs.Prelude.{◌≡◌, ℕ, List, [], Some, Result, Ok, Err}
+-- The interface and the module of a source, and the object that it is compiled to.
+use Rattle.std.specs.Prelude.{◌≡◌, ℕ, List, [], ◌∷◌, Some, Result, Ok, Err}
 use Rattle.scheme_data.specs.Data.{plain_all}
 use Rattle.scheme_data.specs.declared.datum.Datum.{Datum}
 use Rattle.scheme_data.specs.declared.datum.Place.{Place}
+use Rattle.iface_text.specs.Format.{IfaceTree}
+use Rattle.iface_text.specs.Answers.{IsText}
 use Rattle.core_tree.specs.Tree.{ModuleTree}
-use Rattle.meaning.specs.Program.{IsProgram}
+use Rattle.core_tree.specs.WellFormed.{IsWellFormed}
 use Rattle.plan_rules.specs.Translation.{Translated}
 use Rattle.scheme_read.specs.declared.error.ReadErr.{ReadErr}
 use Rattle.scheme_read.specs.declared.error.ReadErr.TheVariants as reading
 use Rattle.scheme_read.specs.Answers.{IsSource, IsFault}
+use Rattle.resolver.specs.Drafts.{exported}
 use Rattle.resolver.specs.Elaboration.{elaborated}
 use Rattle.object_text.specs.Format.{ObjectTree, ObjectText}
-use Rattle.unit_compile.specs.declared.compile.UnitErr.{UnitErr}
-use Rattle.unit_compile.specs.declared.compile.UnitErr.TheVariants.{Syntax, Limit, NotBuilt, Memory}
+use Rattle.unit_compile.specs.declared.error.UnitErr.{UnitErr}
+use Rattle.unit_compile.specs.declared.error.UnitErr.TheVariants.{Syntax, Limit, NotBuilt, Memory}
 
--- the source's data are those of this module
-pub record IsModuleOf (source : List ℕ) (m : ModuleTree) : Type 0 where
+-- Interfaces --------------------------------------------------------------------------------
+
+-- the source's data export these rows
+pub record IsInterfaceOf (source : List ℕ) (i : IfaceTree) : Type 0 where
   pub forms : List Datum
   pub read : IsSource source forms
-  pub is : elaborated (plain_all forms) ≡ Some m
+  pub is : exported (plain_all forms) ≡ Some i
 
--- the object has the module's name and main, and its unit is a translation of the module
+-- the text is the one spelling of the interface of a source, which nothing else decides
+pub record Exported (source text : List ℕ) : Type 0 where
+  pub interface : IfaceTree
+  pub is_interface : IsInterfaceOf source interface
+  pub only : (i : IfaceTree) → IsInterfaceOf source i → i ≡ interface
+  pub is_text : IsText text interface
+
+-- the source is read, and has no interface
+pub record NotExported (source : List ℕ) : Type 0 where
+  pub forms : List Datum
+  pub read : IsSource source forms
+  pub none : (i : IfaceTree) → IsInterfaceOf source i → ⊥
+
+-- Objects -----------------------------------------------------------------------------------
+
+-- the texts are those of these interfaces
+abbrev pub AreTexts : List (List ℕ) → List IfaceTree → Type 0
+AreTexts [] [] = Unit {0}
+AreTexts (text ∷ texts) (i ∷ is) = IsText text i × AreTexts texts is
+AreTexts _ _ = ⊥
+
+-- the source's data are those of this module, where it is compiled with these interface texts
+pub record IsModuleOf (source : List ℕ) (texts : List (List ℕ)) (m : ModuleTree) : Type 0 where
+  pub forms : List Datum
+  pub read : IsSource source forms
+  pub interfaces : List IfaceTree
+  pub are_texts : AreTexts texts interfaces
+  pub is : elaborated interfaces (plain_all forms) ≡ Some m
+
+-- the object has the module's name, imports, uses, exports and main, and its unit is a translation of the module
 pub record IsObjectOf (m : ModuleTree) (o : ObjectTree) : Type 0 where
   pub name : o.module_name ≡ m.name
-  pub main : m.main ≡ Some o.main
+  pub imports : o.imports ≡ m.imports
+  pub uses : o.uses ≡ m.uses
+  pub exports : o.exports ≡ m.exports
+  pub main : o.main ≡ m.main
   pub translated : Translated m o.items
 
-pub record Compiled (source : List ℕ) (ifaces : List (List ℕ)) (text : List ℕ) : Type 0 where
-  pub none : ifaces ≡ []
+pub record Compiled (source : List ℕ) (texts : List (List ℕ)) (text : List ℕ) : Type 0 where
   pub module_tree : ModuleTree
-  pub is_module : IsModuleOf source module_tree
-  pub only : (m : ModuleTree) → IsModuleOf source m → m ≡ module_tree
-  pub program : IsProgram module_tree
+  pub is_module : IsModuleOf source texts module_tree
+  pub only : (m : ModuleTree) → IsModuleOf source texts m → m ≡ module_tree
+  pub formed : IsWellFormed module_tree
   pub object : ObjectTree
   pub is_text : ObjectText text object
   pub is_object : IsObjectOf module_tree object
 
--- the source is read, and no module is its own, or interfaces are given
-pub record NotCompiled (source : List ℕ) (ifaces : List (List ℕ)) : Type 0 where
+-- the source is read, and is that of no module with these interface texts
+pub record NotCompiled (source : List ℕ) (texts : List (List ℕ)) : Type 0 where
   pub forms : List Datum
   pub read : IsSource source forms
-  pub none : (m : ModuleTree) → IsModuleOf source m → ifaces ≡ [] → ⊥
+  pub none : (m : ModuleTree) → IsModuleOf source texts m → ⊥
+
+-- Answers -----------------------------------------------------------------------------------
 
 -- a source is refused for what it has: a fault, or forms that are not built
+abbrev pub ExportsAs : List ℕ → Result (List ℕ) UnitErr → Type 0
+ExportsAs source (Ok text) = Exported source text
+ExportsAs source (Err (Syntax at)) = IsFault source (reading.Syntax at)
+ExportsAs source (Err (Limit kind)) = (at : Place) × IsFault source (reading.Limit kind at)
+ExportsAs source (Err NotBuilt) = NotExported source
+ExportsAs source (Err Memory) = Unit {0}
+
+-- a source with interfaces is refused for a fault, or forms, interfaces or imports that are not built
 abbrev pub CompilesTo : List ℕ → List (List ℕ) → Result (List ℕ) UnitErr → Type 0
-CompilesTo source ifaces (Ok text) = Compiled source ifaces text
-CompilesTo source ifaces (Err (Syntax at)) = IsFault source (reading.Syntax at)
-CompilesTo source ifaces (Err (Limit kind)) = (at : Place) × IsFault source (reading.Limit kind at)
-CompilesTo source ifaces (Err NotBuilt) = NotCompiled source ifaces
-CompilesTo source ifaces (Err Memory) = Unit {0}
+CompilesTo source texts (Ok text) = Compiled source texts text
+CompilesTo source texts (Err (Syntax at)) = IsFault source (reading.Syntax at)
+CompilesTo source texts (Err (Limit kind)) = (at : Place) × IsFault source (reading.Limit kind at)
+CompilesTo source texts (Err NotBuilt) = NotCompiled source texts
+CompilesTo source texts (Err Memory) = Unit {0}
 
 -- how a source with this fault is refused
 abbrev pub refusal_for : ReadErr → UnitErr

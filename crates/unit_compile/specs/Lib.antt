@@ -1,2 +1,2 @@
 pub mod Compilation
-pub mod Modules
+pub mod Parts
