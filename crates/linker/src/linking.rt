@@ -1,7 +1,7 @@
 ghost use Rattle.std.specs.Prelude.{◌≡◌};
 ghost use Rattle.linker.specs.Links.{LinksTo};
 
-use crate::joining::joined_program;
+use crate::joining::{by_itself, joined_program};
 use c_write::write_c;
 use object_text::{ObjectErr, read_object};
 use scheme_data::{OutOfMemory, Text, TextList};
@@ -10,7 +10,7 @@ use std::alloc::Global;
 /// Why objects aren't linked.
 #[derive(Clone, Copy, Debug, PartialEq, Eq)]
 pub enum LinkErr {
-    /// They are not one text of an object.
+    /// They are not the text of one object that takes nothing from another module and has a main function.
     NotBuilt,
     /// Memory was wanted and not given.
     Memory,
@@ -30,15 +30,17 @@ impl From<OutOfMemory> for LinkErr {
 pub fn link(alloc: Global, objects: &TextList) -> Result<Text, LinkErr>
     ensures { LinksTo objects.now result }
 {
-    let texts = objects.as_slice();
-    if texts.len() != 1 {
+    let [text] = objects.as_slice() else {
         return Err(LinkErr::NotBuilt);
-    }
-    let object = match read_object(alloc, texts[0].as_bytes()) {
+    };
+    let object = match read_object(alloc, text.as_bytes()) {
         Ok(object) => object,
         Err(ObjectErr::NotObject) => return Err(LinkErr::NotBuilt),
         Err(ObjectErr::Memory) => return Err(LinkErr::Memory),
     };
-    let program = joined_program(alloc, object)?;
+    let Some(alone) = by_itself(object) else {
+        return Err(LinkErr::NotBuilt);
+    };
+    let program = joined_program(alloc, alone)?;
     Ok(write_c(alloc, &program)?)
 }
