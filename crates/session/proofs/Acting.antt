@@ -10,11 +10,10 @@ use Rattle.commands.specs.declared.command.Command.{Command}
 use Rattle.commands.specs.declared.command.Command.TheVariants.{Blank, Iface, Compile, Link, Run}
 use Rattle.session.specs.declared.answer.Effect.{Effect}
 use Rattle.session.specs.declared.answer.Effect.TheVariants.{Nothing, Wrote, Ran}
-use Rattle.session.specs.declared.answer.Refusal.TheVariants.{NotBuilt}
 use Rattle.session.specs.declared.answer.Halt.{Halt}
 use Rattle.session.specs.declared.answer.Halt.TheVariants.{NoFile, FileFault, WriteFault, Refused, Memory}
-use Rattle.session.specs.Works.{Kind, as_given, as_object, as_program, Held, Stands, AllStand, bytes_of, reads_of, Gives, Refuses, RunMeans, TextRuns, no_input, printed}
-use Rattle.session.specs.Done.{CompileDid, LinkDid, TextRan, CutRun, Performs, Added}
+use Rattle.session.specs.Works.{Kind, as_given, as_interface, as_object, as_program, Held, Stands, AllStand, bytes_of, reads_of, Gives, Refuses, RunMeans, TextRuns, no_input, printed}
+use Rattle.session.specs.Done.{ExportDid, CompileDid, LinkDid, TextRan, CutRun, Performs, Added}
 
 -- the first that was read, and the others
 pub record First (hs : List Held) (text : Bytes) (rest : List Bytes) : Type 0 where
@@ -43,7 +42,7 @@ cut_here c hs (Some bytes) = ([], (inl refl, ap (λ (l : Bytes). Some l) (sym (a
 pub cut : (c : Command) (hs : List Held) (old : Option Bytes) (r : Result Effect Halt) → r ≡ Err Memory → Performs c hs old old r
 cut c hs old r is = subst (λ (x : Result Effect Halt). Performs c hs old old x) (sym is) (cut_here c hs old)
 
--- Blank and Iface ---------------------------------------------------------------------------
+-- Blank -------------------------------------------------------------------------------------
 
 blank_here : (hs : List Held) (o : Option Bytes) → Performs Blank hs o o (Ok Nothing)
 unfolding Performs Gives
@@ -53,13 +52,38 @@ blank_here hs (Some bytes) = ([], ((refl, refl), ap (λ (l : Bytes). Some l) (sy
 pub blank_done : (c : Command) (hs : List Held) (old : Option Bytes) → c ≡ Blank → Performs c hs old old (Ok Nothing)
 blank_done c hs old is = subst (λ (x : Command). Performs x hs old old (Ok Nothing)) (sym is) (blank_here hs old)
 
-iface_here : (s n : Bytes) (hs : List Held) (o : Option Bytes) → Performs (Iface s n) hs o o (Err (Refused NotBuilt))
-unfolding Performs Refuses
-iface_here s n hs None = tt
-iface_here s n hs (Some bytes) = (refl, refl)
+-- Iface -------------------------------------------------------------------------------------
 
-pub iface_refused : (c : Command) (s n : Bytes) (hs : List Held) (old : Option Bytes) → c ≡ Iface s n → Performs c hs old old (Err (Refused NotBuilt))
-iface_refused c s n hs old is = subst (λ (x : Command). Performs x hs old old (Err (Refused NotBuilt))) (sym is) (iface_here s n hs old)
+export_halts : (s n : Bytes) (h : Held) (rest : List Held) (old : Option Bytes) (e : Halt) → ExportDid h.bytes (Err e) → Performs (Iface s n) (h ∷ rest) old old (Err e)
+unfolding Performs Refuses
+export_halts s n h rest None e told = tt
+export_halts s n h rest (Some o) (Refused r) told = (told, refl)
+export_halts s n h rest (Some o) Memory told = ([], (inl refl, ap (λ (l : Bytes). Some l) (sym (append-nil o))))
+export_halts s n h rest (Some o) (NoFile x) told = absurd told
+export_halts s n h rest (Some o) (FileFault x) told = absurd told
+export_halts s n h rest (Some o) WriteFault told = absurd told
+
+export_at_first : (hs : List Held) (text : Bytes) (rest : List Bytes) (r : Result Bytes Halt) (first : First hs text rest) → ExportDid text r → ExportDid first.head.bytes r
+export_at_first hs text rest r first told = subst (λ (x : Bytes). ExportDid x r) (sym first.bytes_are) told
+
+pub export_stops : (c : Command) (s n : Bytes) (hs : List Held) (text : Bytes) (rest : List Bytes) (old : Option Bytes) (r : Result Effect Halt) (e : Halt) → c ≡ Iface s n → First hs text rest → ExportDid text (Err e) → r ≡ Err e → Performs c hs old old r
+export_stops c s n hs text rest old r e c_is first told r_is =
+    subst (λ (x : Command). Performs x hs old old r) (sym c_is)
+    (subst (λ (x : List Held). Performs (Iface s n) x old old r) (sym first.is)
+    (subst (λ (x : Result Effect Halt). Performs (Iface s n) (first.head ∷ first.others) old old x) (sym r_is)
+    (export_halts s n first.head first.others old e (export_at_first hs text rest (Err e) first told))))
+
+export_gives : (s n : Bytes) (h : Held) (rest : List Held) (old : Option Bytes) (interface : Bytes) → ExportDid h.bytes (Ok interface) → Performs (Iface s n) (h ∷ rest) old old (Ok (Wrote n interface))
+unfolding Performs Gives
+export_gives s n h rest None interface told = tt
+export_gives s n h rest (Some o) interface told = ([], ((refl, (interface, (refl, told))), ap (λ (l : Bytes). Some l) (sym (append-nil o))))
+
+pub export_done : (c : Command) (s n name : Bytes) (hs : List Held) (text : Bytes) (rest : List Bytes) (old : Option Bytes) (interface : Bytes) → c ≡ Iface s n → name ≡ n → First hs text rest → ExportDid text (Ok interface) → Performs c hs old old (Ok (Wrote name interface))
+export_done c s n name hs text rest old interface c_is name_is first told =
+    subst (λ (x : Command). Performs x hs old old (Ok (Wrote name interface))) (sym c_is)
+    (subst (λ (x : List Held). Performs (Iface s n) x old old (Ok (Wrote name interface))) (sym first.is)
+    (subst (λ (x : Bytes). Performs (Iface s n) (first.head ∷ first.others) old old (Ok (Wrote x interface))) (sym name_is)
+    (export_gives s n first.head first.others old interface (export_at_first hs text rest (Ok interface) first told))))
 
 -- Compile -----------------------------------------------------------------------------------
 
@@ -130,8 +154,9 @@ link_done c n name os texts hs old text c_is name_is are told =
 pub run_means : (kind : Kind) (bytes : Bytes) (args : List Bytes) (turns : ℕ) (seen : Observation) → Stands kind bytes → TextRuns bytes args turns seen → RunMeans kind bytes args turns seen
 unfolding RunMeans Stands
 run_means as_given bytes args turns seen stands runs = runs
-run_means (as_object source) bytes args turns seen stands runs = runs
-run_means (as_program source) bytes args turns seen stands runs = record {
+run_means (as_interface source) bytes args turns seen stands runs = runs
+run_means (as_object source texts) bytes args turns seen stands runs = runs
+run_means (as_program source texts) bytes args turns seen stands runs = record {
   module_tree = stands.module_tree;
   is_module = stands.is_module;
   same = λ m is. runs.is ∙ ap (λ (items : List Item). cm items no_input args turns) (sym (runs.program.only stands.items stands.text)) ∙ stands.same m is no_input args turns;
@@ -172,6 +197,9 @@ run_done c p turns args words hs text others old new r x c_is words_are first al
     (run_performs p turns args first.head first.others old new r stands at_head)))
 
 -- What was read, as the code has it ---------------------------------------------------------
+
+pub export_reads : (c : Command) (s n : Bytes) (texts : List Bytes) → c ≡ Iface s n → length texts ≡ length (reads_of c) → 0 < length texts
+export_reads c s n texts c_is same = omega (arith, ap (λ (x : Command). length (reads_of x)) c_is)
 
 pub compile_reads : (c : Command) (s n : Bytes) (is texts : List Bytes) → c ≡ Compile s n is → length texts ≡ length (reads_of c) → 0 < length texts
 compile_reads c s n is texts c_is same = omega (arith, ap (λ (x : Command). length (reads_of x)) c_is)

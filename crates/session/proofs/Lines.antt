@@ -1,18 +1,21 @@
 -- One line: its steps put together, once for all commands.
-use Rattle.std.proofs.Common.{◌≡◌, Bool, true, false, cond, List, [], ◌∷◌, ◌++◌, map, Option, Some, None, Result, Ok, Err, inl, inr, refl, ap, sym, ◌∙◌, arith, subst, append_assoc, unwrap_or, Contains}
+use Rattle.std.proofs.Common.{◌≡◌, ℕ, suc, Bool, true, false, cond, IsTrue, nat_eq, length, List, [], ◌∷◌, ◌++◌, map, Option, Some, None, Result, Ok, Err, inl, inr, refl, ap, sym, ◌∙◌, arith, subst, append_assoc, unwrap_or, Contains}
 use Rattle.std.proofs.lemmas.List.{append-nil}
+use Rattle.std.proofs.lemmas.Bool.Decides.{nat_tests}
 use Rattle.std.specs.Ordering.{nat_cmp, eq_by_cmp}
 use Rattle.std.specs.Cmp.Lexicographic.{slice_cmp, nat_list_cmp_total}
 use Rattle.std.specs.FinMap.{get, insert, get-insert}
 use Rattle.base_io.specs.Contents.{Bytes, Contents, KeepsOthers}
 use Rattle.base_io.specs.declared.end.End.{End}
-use Rattle.core_tree.specs.Tree.{ModuleTree}
-use Rattle.meaning.specs.Program.{src}
+use Rattle.core_tree.specs.declared.tree.VarId.{VarId}
+use Rattle.core_tree.specs.Tree.{FunctionTree, ModuleTree}
+use Rattle.core_tree.specs.WellFormed.{takes_as_many, IsMain, IsWellFormed}
+use Rattle.meaning.specs.Program.{src, main_of, IsProgram}
 use Rattle.c_tree.specs.Spelling.{CText}
 use Rattle.plan_rules.specs.Joined.{joined}
 use Rattle.object_text.specs.Format.{ObjectTree, ObjectText}
-use Rattle.unit_compile.specs.Compilation.{Compiled}
-use Rattle.linker.specs.Links.{Linked}
+use Rattle.unit_compile.specs.Compilation.{Exported, Compiled}
+use Rattle.linker.specs.Links.{IsAlone, Linked}
 use Rattle.simulation.specs.Law.{KeepsMeaning}
 use Rattle.commands.specs.declared.command.Command.{Command}
 use Rattle.commands.specs.declared.command.Command.TheVariants.{Blank, Iface, Compile, Link, Run}
@@ -20,7 +23,7 @@ use Rattle.session.specs.declared.answer.Effect.{Effect}
 use Rattle.session.specs.declared.answer.Effect.TheVariants.{Nothing, Wrote, Ran}
 use Rattle.session.specs.declared.answer.Halt.{Halt}
 use Rattle.session.specs.declared.answer.Halt.TheVariants.{NoFile, FileFault, WriteFault, Refused, Memory}
-use Rattle.session.specs.Works.{Kind, as_given, as_object, as_program, Held, Stands, MeansSource, AllStand, bytes_of, Gives, MayAdd, reads_of, writes_of, kind_of_work, kind_of_linked, kind_of_joined}
+use Rattle.session.specs.Works.{Kind, as_given, as_interface, as_object, as_program, Held, Stands, MeansSource, AllStand, bytes_of, Gives, MayAdd, reads_of, writes_of, kind_of_work, kind_of_linked, kind_of_joined}
 use Rattle.session.specs.Outside.{missing, ReadAll, WroteOne}
 use Rattle.session.specs.Done.{Performs}
 use Rattle.session.specs.Steps.{Finished}
@@ -32,26 +35,52 @@ use Rattle.session.specs.Scripts.{State, held, after, Steps, Stops, Same, FilesB
 pub gives_writes : (c : Command) (hs : List Held) (added name bytes : Bytes) → Gives c hs added (Wrote name bytes) → writes_of c ≡ name ∷ []
 unfolding Gives
 gives_writes Blank hs added name bytes g = absurd (let e = g.1 in cc)
-gives_writes (Iface s n) hs added name bytes g = absurd g
+gives_writes (Iface s n) [] added name bytes g = absurd g.1
+gives_writes (Iface s n) (h ∷ hs) added name bytes g = let e = g.1.1.0 in let same : name ≡ n = cc in ap (λ (x : Bytes). x ∷ []) (sym same)
 gives_writes (Compile s n is) [] added name bytes g = absurd g.1
 gives_writes (Compile s n is) (h ∷ hs) added name bytes g = let e = g.1.1.0 in let same : name ≡ n = cc in ap (λ (x : Bytes). x ∷ []) (sym same)
 gives_writes (Link n os) hs added name bytes g = let e = g.1.1.0 in let same : name ≡ n = cc in ap (λ (x : Bytes). x ∷ []) (sym same)
 gives_writes (Run p t a) [] added name bytes g = absurd g
 gives_writes (Run p t a) (h ∷ hs) added name bytes g = absurd (let e = g.1.2 in cc)
 
+more_than_one : (n : ℕ) → nat_eq (suc (suc n)) 1 ≡ true → ⊥
+more_than_one n one = grind (arith, nat_tests)
+
+one_parameter : (xs : List VarId) → IsTrue (nat_eq (length xs) 1) → (x : VarId) × (xs ≡ x ∷ [])
+one_parameter [] one = let no : false ≡ true = one in absurd (cc)
+one_parameter (x ∷ []) one = (x, refl)
+one_parameter (x ∷ y ∷ xs) one = absurd (more_than_one (length xs) one)
+
+-- a well-formed module that takes nothing from another one and has a main function is a program by itself
+is_program : (m : ModuleTree) (main : Bytes) → IsWellFormed m → m.imports ≡ [] → m.uses ≡ [] → m.main ≡ Some main → IsProgram m
+is_program m main formed no_imports no_uses has_main = with_function (main_of m (Some main)) refl (subst (λ (o : Option Bytes). IsMain m o) has_main formed.main)
+  where
+    with_function : (found : Option FunctionTree) → main_of m (Some main) ≡ found → IsTrue (takes_as_many 1 found) → IsProgram m
+    with_function None is one = let no : false ≡ true = one in absurd (cc)
+    with_function (Some f) is one = record {
+      no_imports = no_imports;
+      no_uses = no_uses;
+      function = f;
+      is = ap (λ (o : Option Bytes). main_of m o) has_main ∙ is;
+      one = one_parameter f.params one;
+    }
+
 -- the text of one object of a source's module, linked, means what the module means
-linked_means : KeepsMeaning → (source bytes text : Bytes) → Compiled source [] bytes → Linked (bytes ∷ []) text → MeansSource source text
+linked_means : KeepsMeaning → (source : Bytes) (texts : List Bytes) (bytes text : Bytes) → Compiled source texts bytes → Linked (bytes ∷ []) text → MeansSource source texts text
 unfolding KeepsMeaning
-linked_means law source bytes text made linked =
+linked_means law source texts bytes text made linked =
     let m : ModuleTree = made.module_tree in
     let o : ObjectTree = made.object in
     let bytes_are : bytes ≡ linked.bytes = let e = linked.one in cc in
     let same : o ≡ linked.object = linked.only o (subst (λ (b : Bytes). ObjectText b o) bytes_are made.is_text) in
-    let spelled : CText text (joined o.module_name o.main o.items) = subst (λ (x : ObjectTree). CText text (joined x.module_name x.main x.items)) (sym same) linked.is_text in
-    let faithful = law m o.main o.items made.is_object.main made.program made.is_object.translated in
+    let alone : IsAlone o linked.main = subst (λ (x : ObjectTree). IsAlone x linked.main) (sym same) linked.alone in
+    let spelled : CText text (joined o.module_name linked.main o.items) = subst (λ (x : ObjectTree). CText text (joined x.module_name linked.main x.items)) (sym same) linked.is_text in
+    let has_main : m.main ≡ Some linked.main = sym made.is_object.main ∙ alone.has_main in
+    let program = is_program m linked.main made.formed (sym made.is_object.imports ∙ alone.no_imports) (sym made.is_object.uses ∙ alone.no_uses) has_main in
+    let faithful = law m linked.main o.items has_main program made.is_object.translated in
     record {
-      items = joined m.name o.main o.items;
-      text = subst (λ (n : Bytes). CText text (joined n o.main o.items)) made.is_object.name spelled;
+      items = joined m.name linked.main o.items;
+      text = subst (λ (n : Bytes). CText text (joined n linked.main o.items)) made.is_object.name spelled;
       checked = faithful.checked;
       module_tree = m;
       is_module = made.is_module;
@@ -61,8 +90,9 @@ linked_means law source bytes text made linked =
 joined_stands : KeepsMeaning → (kind : Kind) (bytes text : Bytes) → Stands kind bytes → Linked (bytes ∷ []) text → Stands (kind_of_joined kind) text
 unfolding Stands
 joined_stands law as_given bytes text stands linked = tt
-joined_stands law (as_object source) bytes text stands linked = linked_means law source bytes text stands linked
-joined_stands law (as_program source) bytes text stands linked = tt
+joined_stands law (as_interface source) bytes text stands linked = tt
+joined_stands law (as_object source texts) bytes text stands linked = linked_means law source texts bytes text stands linked
+joined_stands law (as_program source texts) bytes text stands linked = tt
 
 linked_stands : KeepsMeaning → (hs : List Held) (text : Bytes) → AllStand hs → Linked (bytes_of hs) text → Stands (kind_of_linked hs) text
 unfolding Stands
@@ -70,18 +100,22 @@ linked_stands law [] text all linked = tt
 linked_stands law (h ∷ []) text all linked = joined_stands law h.kind h.bytes text all.0 linked
 linked_stands law (h ∷ n ∷ hs) text all linked = tt
 
-compiled_stands : (source name text bytes : Bytes) (ifaces : List Bytes) → Compiled source ifaces text → bytes ≡ text → Stands (as_object source) bytes
+exported_stands : (source text bytes : Bytes) → Exported source text → bytes ≡ text → Stands (as_interface source) bytes
 unfolding Stands
-compiled_stands source name text bytes ifaces made is =
-    subst (λ (b : Bytes). Compiled source [] b) (sym is) (subst (λ (l : List Bytes). Compiled source l text) made.none made)
+exported_stands source text bytes made is = subst (λ (b : Bytes). Exported source b) (sym is) made
+
+compiled_stands : (source : Bytes) (texts : List Bytes) (text bytes : Bytes) → Compiled source texts text → bytes ≡ text → Stands (as_object source texts) bytes
+unfolding Stands
+compiled_stands source texts text bytes made is = subst (λ (b : Bytes). Compiled source texts b) (sym is) made
 
 -- what it writes is as is then known of it
 pub gives_stands : KeepsMeaning → (c : Command) (hs : List Held) (added name bytes : Bytes) → AllStand hs → Gives c hs added (Wrote name bytes) → Stands (kind_of_work c hs) bytes
 unfolding Gives
 gives_stands law Blank hs added name bytes all g = absurd (let e = g.1 in cc)
-gives_stands law (Iface s n) hs added name bytes all g = absurd g
+gives_stands law (Iface s n) [] added name bytes all g = absurd g.1
+gives_stands law (Iface s n) (h ∷ hs) added name bytes all g = let e = g.1.1.0 in let same : bytes ≡ g.1.0 = cc in exported_stands h.bytes g.1.0 bytes g.1.1.1 same
 gives_stands law (Compile s n is) [] added name bytes all g = absurd g.1
-gives_stands law (Compile s n is) (h ∷ hs) added name bytes all g = let e = g.1.1.0 in let same : bytes ≡ g.1.0 = cc in compiled_stands h.bytes name g.1.0 bytes (bytes_of hs) g.1.1.1 same
+gives_stands law (Compile s n is) (h ∷ hs) added name bytes all g = let e = g.1.1.0 in let same : bytes ≡ g.1.0 = cc in compiled_stands h.bytes (bytes_of hs) g.1.0 bytes g.1.1.1 same
 gives_stands law (Link n os) hs added name bytes all g = let e = g.1.1.0 in let same : bytes ≡ g.1.0 = cc in subst (λ (b : Bytes). Stands (kind_of_linked hs) b) (sym same) (linked_stands law hs g.1.0 all g.1.1.1)
 gives_stands law (Run p t a) [] added name bytes all g = absurd g
 gives_stands law (Run p t a) (h ∷ hs) added name bytes all g = absurd (let e = g.1.2 in cc)

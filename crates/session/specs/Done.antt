@@ -9,22 +9,39 @@ use Rattle.c_tree.specs.Functions.{items_of}
 use Rattle.c_tree.specs.Spelling.{CText}
 use Rattle.c_tree.specs.declared.function.CProgram.{CProgram}
 use Rattle.c_machine.specs.Runs.{WrotePart}
-use Rattle.unit_compile.specs.Compilation.{Compiled}
-use Rattle.linker.specs.Links.{Linked}
+use Rattle.unit_compile.specs.declared.error.UnitErr.{UnitErr}
+use Rattle.unit_compile.specs.declared.error.UnitErr.TheVariants as unit
+use Rattle.unit_compile.specs.Compilation.{Exported, Compiled}
+use Rattle.linker.specs.Links.{Linked, NotLinked}
 use Rattle.commands.specs.declared.command.Command.{Command}
 use Rattle.session.specs.declared.answer.Effect.{Effect}
-use Rattle.session.specs.declared.answer.Refusal.TheVariants.{NotBuilt}
+use Rattle.session.specs.declared.answer.Refusal.TheVariants.{NotBuilt, Syntax, Limit}
 use Rattle.session.specs.declared.answer.Halt.{Halt}
 use Rattle.session.specs.declared.answer.Halt.TheVariants.{NoFile, FileFault, WriteFault, Refused, Memory}
-use Rattle.session.specs.Works.{Held, Gives, Refuses, MayAdd, IsProgramText, TextRuns, printed, CompileRefuses, NotLinked, NotRun}
+use Rattle.session.specs.Works.{Held, Gives, Refuses, MayAdd, IsProgramText, TextRuns, printed, ExportRefuses, CompileRefuses, NotRun}
+
+-- why a line is not done whose source isn't compiled
+abbrev pub halt_of : UnitErr → Halt
+halt_of (unit.Syntax at) = Refused (Syntax at)
+halt_of (unit.Limit kind) = Refused (Limit kind)
+halt_of unit.NotBuilt = Refused NotBuilt
+halt_of unit.Memory = Memory
+
+abbrev pub ExportDid : Bytes → Result Bytes Halt → Type 0
+ExportDid source (Ok text) = Exported source text
+ExportDid source (Err (Refused r)) = ExportRefuses source r
+ExportDid source (Err Memory) = Unit {0}
+ExportDid source (Err (NoFile n)) = ⊥
+ExportDid source (Err (FileFault n)) = ⊥
+ExportDid source (Err WriteFault) = ⊥
 
 abbrev pub CompileDid : Bytes → List Bytes → Result Bytes Halt → Type 0
-CompileDid source ifaces (Ok text) = Compiled source ifaces text
-CompileDid source ifaces (Err (Refused r)) = CompileRefuses source ifaces r
-CompileDid source ifaces (Err Memory) = Unit {0}
-CompileDid source ifaces (Err (NoFile n)) = ⊥
-CompileDid source ifaces (Err (FileFault n)) = ⊥
-CompileDid source ifaces (Err WriteFault) = ⊥
+CompileDid source texts (Ok text) = Compiled source texts text
+CompileDid source texts (Err (Refused r)) = CompileRefuses source texts r
+CompileDid source texts (Err Memory) = Unit {0}
+CompileDid source texts (Err (NoFile n)) = ⊥
+CompileDid source texts (Err (FileFault n)) = ⊥
+CompileDid source texts (Err WriteFault) = ⊥
 
 abbrev pub LinkDid : List Bytes → Result Bytes Halt → Type 0
 LinkDid objects (Ok text) = Linked objects text

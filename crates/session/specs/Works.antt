@@ -14,9 +14,8 @@ use Rattle.c_tree.specs.Code.{Item}
 use Rattle.c_tree.specs.Spelling.{CText}
 use Rattle.c_meaning.specs.Program.{cm}
 use Rattle.c_meaning.specs.Checked.{IsChecked}
-use Rattle.object_text.specs.Format.{ObjectTree, ObjectText}
-use Rattle.unit_compile.specs.Compilation.{IsModuleOf, Compiled, NotCompiled}
-use Rattle.linker.specs.Links.{Linked}
+use Rattle.unit_compile.specs.Compilation.{IsModuleOf, Exported, NotExported, Compiled, NotCompiled}
+use Rattle.linker.specs.Links.{Linked, NotLinked}
 use Rattle.commands.specs.declared.command.Command.{Command}
 use Rattle.commands.specs.declared.command.Command.TheVariants.{Blank, Iface, Compile, Link, Run}
 use Rattle.session.specs.declared.answer.Refusal.{Refusal}
@@ -26,11 +25,12 @@ use Rattle.session.specs.declared.answer.Effect.TheVariants.{Nothing, Wrote, Ran
 
 -- What a name has ---------------------------------------------------------------------------
 
--- what a script knows of a file: it was handed in, or holds the object or the program of a source
+-- what a script knows of a file: it was handed in, or holds the interface of a source, or the object or the program of a source and the interface texts with which it was compiled
 pub data Kind : Type 0 where
   as_given : Kind
-  as_object : Bytes → Kind
-  as_program : Bytes → Kind
+  as_interface : Bytes → Kind
+  as_object : Bytes → List Bytes → Kind
+  as_program : Bytes → List Bytes → Kind
 
 -- what was read, and what is known of it
 pub record Held : Type 0 where
@@ -41,19 +41,20 @@ abbrev pub bytes_of : List Held → List Bytes
 bytes_of hs = map (λ h. h.bytes) hs
 
 -- a program of the source: for every input, arguments and number of turns it prints and ends as the source's module does by its plain meaning
-pub record MeansSource (source bytes : Bytes) : Type 0 where
+pub record MeansSource (source : Bytes) (texts : List Bytes) (bytes : Bytes) : Type 0 where
   pub items : List Item
   pub text : CText bytes items
   pub checked : IsChecked items
   pub module_tree : ModuleTree
-  pub is_module : IsModuleOf source module_tree
-  pub same : (m : ModuleTree) → IsModuleOf source m → (input : Bytes) (args : List Bytes) (turns : ℕ) → cm items input args turns ≡ src m input args turns
+  pub is_module : IsModuleOf source texts module_tree
+  pub same : (m : ModuleTree) → IsModuleOf source texts m → (input : Bytes) (args : List Bytes) (turns : ℕ) → cm items input args turns ≡ src m input args turns
 
 -- the bytes are as is known of them
 unfoldable pub Stands : Kind → Bytes → Type 0
 Stands as_given bytes = Unit {0}
-Stands (as_object source) bytes = Compiled source [] bytes
-Stands (as_program source) bytes = MeansSource source bytes
+Stands (as_interface source) bytes = Exported source bytes
+Stands (as_object source texts) bytes = Compiled source texts bytes
+Stands (as_program source texts) bytes = MeansSource source texts bytes
 
 abbrev pub AllStand : List Held → Type 0
 AllStand [] = Unit {0}
@@ -69,22 +70,27 @@ reads_of (Compile source out ifaces) = source ∷ ifaces
 reads_of (Link out objects) = objects
 reads_of (Run program turns args) = program ∷ []
 
--- the name that it writes; no interface is written yet
+-- the name that it writes
 abbrev pub writes_of : Command → List Bytes
 writes_of Blank = []
-writes_of (Iface source out) = []
+writes_of (Iface source out) = out ∷ []
 writes_of (Compile source out ifaces) = out ∷ []
 writes_of (Link out objects) = out ∷ []
 writes_of (Run program turns args) = []
 
+abbrev pub kind_of_exported : List Held → Kind
+kind_of_exported [] = as_given
+kind_of_exported (h ∷ hs) = as_interface h.bytes
+
 abbrev pub kind_of_compiled : List Held → Kind
 kind_of_compiled [] = as_given
-kind_of_compiled (h ∷ hs) = as_object h.bytes
+kind_of_compiled (h ∷ hs) = as_object h.bytes (bytes_of hs)
 
 abbrev pub kind_of_joined : Kind → Kind
 kind_of_joined as_given = as_given
-kind_of_joined (as_object source) = as_program source
-kind_of_joined (as_program source) = as_given
+kind_of_joined (as_interface source) = as_given
+kind_of_joined (as_object source texts) = as_program source texts
+kind_of_joined (as_program source texts) = as_given
 
 abbrev pub kind_of_linked : List Held → Kind
 kind_of_linked [] = as_given
@@ -94,7 +100,7 @@ kind_of_linked (h ∷ next ∷ hs) = as_given
 -- what is then known of the name that it writes
 abbrev pub kind_of_work : Command → List Held → Kind
 kind_of_work Blank hs = as_given
-kind_of_work (Iface source out) hs = as_given
+kind_of_work (Iface source out) hs = kind_of_exported hs
 kind_of_work (Compile source out ifaces) hs = kind_of_compiled hs
 kind_of_work (Link out objects) hs = kind_of_linked hs
 kind_of_work (Run program turns args) hs = as_given
@@ -132,18 +138,23 @@ pub record TextRuns (bytes : Bytes) (args : List Bytes) (turns : ℕ) (seen : Ob
   pub is : seen ≡ cm items no_input args turns
 
 -- a run of what the source's module means
-pub record SourceRuns (source : Bytes) (args : List Bytes) (turns : ℕ) (seen : Observation) : Type 0 where
+pub record SourceRuns (source : Bytes) (texts : List Bytes) (args : List Bytes) (turns : ℕ) (seen : Observation) : Type 0 where
   pub module_tree : ModuleTree
-  pub is_module : IsModuleOf source module_tree
-  pub same : (m : ModuleTree) → IsModuleOf source m → seen ≡ src m no_input args turns
+  pub is_module : IsModuleOf source texts module_tree
+  pub same : (m : ModuleTree) → IsModuleOf source texts m → seen ≡ src m no_input args turns
 
 -- a run of a source's program is by the source, and of all else by the bytes
 unfoldable pub RunMeans : Kind → Bytes → List Bytes → ℕ → Observation → Type 0
 RunMeans as_given bytes args turns seen = TextRuns bytes args turns seen
-RunMeans (as_object source) bytes args turns seen = TextRuns bytes args turns seen
-RunMeans (as_program source) bytes args turns seen = SourceRuns source args turns seen
+RunMeans (as_interface source) bytes args turns seen = TextRuns bytes args turns seen
+RunMeans (as_object source texts) bytes args turns seen = TextRuns bytes args turns seen
+RunMeans (as_program source texts) bytes args turns seen = SourceRuns source texts args turns seen
 
 -- What a command gives ----------------------------------------------------------------------
+
+abbrev pub ExportGives : List Held → Bytes → Effect → Type 0
+ExportGives [] out effect = ⊥
+ExportGives (h ∷ hs) out effect = (text : Bytes) × ((effect ≡ Wrote out text) × Exported h.bytes text)
 
 abbrev pub CompileGives : List Held → Bytes → Effect → Type 0
 CompileGives [] out effect = ⊥
@@ -159,7 +170,7 @@ RunGives (h ∷ hs) args turns added effect = (seen : Observation) × (RunMeans 
 -- with what was read for it, the command adds these bytes to the sink and has this effect; a program's arguments begin with its name
 unfoldable pub Gives : Command → List Held → Bytes → Effect → Type 0
 Gives Blank hs added effect = (added ≡ []) × (effect ≡ Nothing)
-Gives (Iface source out) hs added effect = ⊥
+Gives (Iface source out) hs added effect = (added ≡ []) × ExportGives hs out effect
 Gives (Compile source out ifaces) hs added effect = (added ≡ []) × CompileGives hs out effect
 Gives (Link out objects) hs added effect = (added ≡ []) × LinkGives hs out effect
 Gives (Run program turns args) hs added effect = RunGives hs (program ∷ args) turns added effect
@@ -171,13 +182,15 @@ MayAdd command hs added = (added ≡ []) ⊎ ((rest : Bytes) × ((effect : Effec
 -- What a command refuses --------------------------------------------------------------------
 
 -- a source is refused for its fault; where it is read, as not built
-abbrev pub CompileRefuses : Bytes → List Bytes → Refusal → Type 0
-CompileRefuses source ifaces NotBuilt = NotCompiled source ifaces
-CompileRefuses source ifaces (Syntax at) = IsFault source (reading.Syntax at)
-CompileRefuses source ifaces (Limit kind) = (at : Place) × IsFault source (reading.Limit kind at)
+abbrev pub ExportRefuses : Bytes → Refusal → Type 0
+ExportRefuses source NotBuilt = NotExported source
+ExportRefuses source (Syntax at) = IsFault source (reading.Syntax at)
+ExportRefuses source (Limit kind) = (at : Place) × IsFault source (reading.Limit kind at)
 
-abbrev pub NotLinked : List Bytes → Type 0
-NotLinked objects = (bytes : Bytes) (o : ObjectTree) → objects ≡ bytes ∷ [] → ObjectText bytes o → ⊥
+abbrev pub CompileRefuses : Bytes → List Bytes → Refusal → Type 0
+CompileRefuses source texts NotBuilt = NotCompiled source texts
+CompileRefuses source texts (Syntax at) = IsFault source (reading.Syntax at)
+CompileRefuses source texts (Limit kind) = (at : Place) × IsFault source (reading.Limit kind at)
 
 abbrev pub NotRun : Bytes → Type 0
 NotRun bytes = (items : List Item) → CText bytes items → IsChecked items → ⊥
@@ -185,7 +198,8 @@ NotRun bytes = (items : List Item) → CText bytes items → IsChecked items →
 -- the command refuses what was read for it
 unfoldable pub Refuses : Command → List Held → Refusal → Type 0
 Refuses Blank hs refusal = ⊥
-Refuses (Iface source out) hs refusal = refusal ≡ NotBuilt
+Refuses (Iface source out) [] refusal = ⊥
+Refuses (Iface source out) (h ∷ hs) refusal = ExportRefuses h.bytes refusal
 Refuses (Compile source out ifaces) [] refusal = ⊥
 Refuses (Compile source out ifaces) (h ∷ hs) refusal = CompileRefuses h.bytes (bytes_of hs) refusal
 Refuses (Link out objects) hs refusal = (refusal ≡ NotBuilt) × NotLinked (bytes_of hs)

@@ -3,7 +3,7 @@ ghost use Rattle.std.specs.Prelude.{◌≡◌, ◌≤◌, ◌<◌, ◌∷◌, Li
 ghost use Rattle.base_io.specs.Causes.{Rose};
 ghost use Rattle.base_io.specs.Contents.{Bytes};
 ghost use Rattle.session.specs.Works.{Held, AllStand, bytes_of, reads_of};
-ghost use Rattle.session.specs.Done.{CompileDid, LinkDid, Performs};
+ghost use Rattle.session.specs.Done.{halt_of, ExportDid, CompileDid, LinkDid, Performs};
 
 use crate::answer::{Effect, Halt, Refusal};
 use crate::running::run;
@@ -12,7 +12,7 @@ use commands::{Command, copy_all};
 use linker::{LinkErr, link};
 use scheme_data::{OutOfMemory, Text, TextList};
 use std::alloc::Global;
-use unit_compile::{UnitErr, compile_unit};
+use unit_compile::{UnitErr, compile_unit, make_iface};
 
 /// A list of one text and then others.
 fn text_and(alloc: Global, first: &Text, others: &[Text]) -> Result<TextList, OutOfMemory>
@@ -39,18 +39,32 @@ pub fn names_read(alloc: Global, command: &Command) -> Result<TextList, OutOfMem
     }
 }
 
+/// Why a line is not done whose source isn't compiled.
+fn halt_for(refused: UnitErr) -> Halt
+    ensures { result ≡ halt_of refused }
+{
+    match refused {
+        UnitErr::Syntax(at) => Halt::Refused(Refusal::Syntax(at)),
+        UnitErr::Limit(kind) => Halt::Refused(Refusal::Limit(kind)),
+        UnitErr::NotBuilt => Halt::Refused(Refusal::NotBuilt),
+        UnitErr::Memory => Halt::Memory,
+    }
+}
+
+fn export(alloc: Global, source: &[u8]) -> Result<Text, Halt>
+    ensures told { ExportDid source.now result }
+    ensures no_file_fault { (n : Bytes) → IsErrOf result (Halt.FileFault n) → ⊥ }
+    ensures no_write_fault { IsErrOf result Halt.WriteFault → ⊥ }
+{
+    make_iface(alloc, source).map_err(halt_for)
+}
+
 fn compile(alloc: Global, source: &[u8], ifaces: &TextList) -> Result<Text, Halt>
     ensures told { CompileDid source.now ifaces.now result }
     ensures no_file_fault { (n : Bytes) → IsErrOf result (Halt.FileFault n) → ⊥ }
     ensures no_write_fault { IsErrOf result Halt.WriteFault → ⊥ }
 {
-    match compile_unit(alloc, source, ifaces) {
-        Ok(text) => Ok(text),
-        Err(UnitErr::Syntax(at)) => Err(Halt::Refused(Refusal::Syntax(at))),
-        Err(UnitErr::Limit(kind)) => Err(Halt::Refused(Refusal::Limit(kind))),
-        Err(UnitErr::NotBuilt) => Err(Halt::Refused(Refusal::NotBuilt)),
-        Err(UnitErr::Memory) => Err(Halt::Memory),
-    }
+    compile_unit(alloc, source, ifaces).map_err(halt_for)
 }
 
 fn join(alloc: Global, objects: &TextList) -> Result<Text, Halt>
@@ -80,7 +94,10 @@ pub fn perform<K: Sink>(
 {
     match command {
         Command::Blank => Ok(Effect::Nothing),
-        Command::Iface(_, _) => Err(Halt::Refused(Refusal::NotBuilt)),
+        Command::Iface(_, name) => {
+            let interface = export(alloc, texts.as_slice()[0].as_bytes())?;
+            Ok(Effect::Wrote(name.copy(alloc)?, interface))
+        }
         Command::Compile(_, name, _) => {
             let ifaces = copy_all(alloc, &texts.as_slice()[1..])?;
             let object = compile(alloc, texts.as_slice()[0].as_bytes(), &ifaces)?;

@@ -1,27 +1,42 @@
 use Rattle.std.proofs.Common.{◌∙◌, refl, ap, List, ◌∷◌, Ok, Err}
 use Rattle.base_io.specs.Contents.{Bytes}
 use Rattle.std.proofs.lemmas.Result.{err_from_is_err_and}
-use Rattle.session.proofs.Acting.{cut, blank_done, iface_refused, compile_stops, compile_done, link_stops, link_done, run_done, compile_reads, run_reads, first_text, others_are, compile_told}
+use Rattle.session.proofs.Acting.{cut, blank_done, export_stops, export_done, compile_stops, compile_done, link_stops, link_done, run_done, export_reads, compile_reads, run_reads, first_text, others_are, compile_told}
 use Rattle.session.proofs.acts.perform.Goals as goal
 
 pub returns-in-Blank-clause-told : goal.returns-in-Blank-clause-told
 returns-in-Blank-clause-told g c = λ hs are all. blank_done c.args.command.now hs _ c.in-Blank.is
 
-pub returns-in-Iface-clause-told : goal.returns-in-Iface-clause-told
-returns-in-Iface-clause-told g c = λ hs are all. iface_refused c.args.command.now _ _ hs _ c.in-Iface.is
+pub returns-in_err-interface-in-Iface-clause-told : goal.returns-in_err-interface-in-Iface-clause-told
+returns-in_err-interface-in-Iface-clause-told g c = λ hs are all.
+    let p = err_from_is_err_and c.from_residual.result c.from_residual.ensures.1 in
+    let some = export_reads c.args.command.now _ _ _ c.in-Iface.is c.requires in
+    let first = first_text hs c.args.texts.now c.as_slice.result.now c.index-as_slice-0.result c.as_bytes.result.now are c.as_slice.ensures some c.index-as_slice-0.is c.as_bytes.ensures in
+    export_stops c.args.command.now _ _ hs _ _ _ _ _ c.in-Iface.is first c.in_err-interface-in-Iface.ensures.told (p.1 ∙ ap (λ h. Err h) p.2)
+
+pub returns-in_err-copy-in-Iface-clause-told : goal.returns-in_err-copy-in-Iface-clause-told
+returns-in_err-copy-in-Iface-clause-told g c = λ hs are all.
+    let p = err_from_is_err_and c.from_residual-in_err-copy-in-Iface.result c.from_residual-in_err-copy-in-Iface.ensures.1 in
+    cut c.args.command.now hs _ _ (p.1 ∙ ap (λ h. Err h) p.2)
+
+pub returns-in_ok-copy-in-Iface-clause-told : goal.returns-in_ok-copy-in-Iface-clause-told
+returns-in_ok-copy-in-Iface-clause-told g c = λ hs are all.
+    let some = export_reads c.args.command.now _ _ _ c.in-Iface.is c.requires in
+    let first = first_text hs c.args.texts.now c.as_slice.result.now c.index-as_slice-0.result c.as_bytes.result.now are c.as_slice.ensures some c.index-as_slice-0.is c.as_bytes.ensures in
+    export_done c.args.command.now _ c.in-Iface.name c.in_ok-copy-in-Iface.field-0 hs _ _ _ _ c.in-Iface.is c.in_ok-copy-in-Iface.ensures first c.in_ok-interface-in-Iface.ensures.told
 
 pub returns-in_err-ifaces-in-Compile-clause-told : goal.returns-in_err-ifaces-in-Compile-clause-told
 returns-in_err-ifaces-in-Compile-clause-told g c = λ hs are all.
-    let p = err_from_is_err_and c.from_residual.result c.from_residual.ensures.1 in
+    let p = err_from_is_err_and c.from_residual-in_err-ifaces-in-Compile.result c.from_residual-in_err-ifaces-in-Compile.ensures.1 in
     cut c.args.command.now hs _ _ (p.1 ∙ ap (λ h. Err h) p.2)
 
 pub returns-in_err-object-in-Compile-clause-told : goal.returns-in_err-object-in-Compile-clause-told
 returns-in_err-object-in-Compile-clause-told g c = λ hs are all.
     let p = err_from_is_err_and c.from_residual-in_err-object-in-Compile.result c.from_residual-in_err-object-in-Compile.ensures.1 in
     let some = compile_reads c.args.command.now _ _ _ _ c.in-Compile.is c.requires in
-    let first = first_text hs c.args.texts.now c.as_slice-in-Compile.result.now c.index-as_slice-0.result c.as_bytes.result.now are c.as_slice-in-Compile.ensures some c.index-as_slice-0.is c.as_bytes.ensures in
-    let others = others_are c.args.texts.now c.as_slice.result.now c.in_ok-ifaces-in-Compile.ifaces c.as_slice.ensures c.in_ok-ifaces-in-Compile.ensures in
-    compile_stops c.args.command.now _ _ _ hs _ _ _ _ _ c.in-Compile.is first (compile_told c.args.texts.now c.in_ok-ifaces-in-Compile.ifaces c.as_bytes.result.now (Err c.in_err-object-in-Compile.field-0.0) others c.in_err-object-in-Compile.ensures.told) (p.1 ∙ ap (λ h. Err h) p.2)
+    let first = first_text hs c.args.texts.now c.as_slice-in-Compile-2.result.now c.index-as_slice-0-in-Compile.result c.as_bytes-in-Compile.result.now are c.as_slice-in-Compile-2.ensures some c.index-as_slice-0-in-Compile.is c.as_bytes-in-Compile.ensures in
+    let others = others_are c.args.texts.now c.as_slice-in-Compile.result.now c.in_ok-ifaces-in-Compile.ifaces c.as_slice-in-Compile.ensures c.in_ok-ifaces-in-Compile.ensures in
+    compile_stops c.args.command.now _ _ _ hs _ _ _ _ _ c.in-Compile.is first (compile_told c.args.texts.now c.in_ok-ifaces-in-Compile.ifaces c.as_bytes-in-Compile.result.now (Err c.in_err-object-in-Compile.field-0.0) others c.in_err-object-in-Compile.ensures.told) (p.1 ∙ ap (λ h. Err h) p.2)
 
 pub returns-in_err-copy-in-Compile-clause-told : goal.returns-in_err-copy-in-Compile-clause-told
 returns-in_err-copy-in-Compile-clause-told g c = λ hs are all.
@@ -31,9 +46,9 @@ returns-in_err-copy-in-Compile-clause-told g c = λ hs are all.
 pub returns-in_ok-copy-in-Compile-clause-told : goal.returns-in_ok-copy-in-Compile-clause-told
 returns-in_ok-copy-in-Compile-clause-told g c = λ hs are all.
     let some = compile_reads c.args.command.now _ _ _ _ c.in-Compile.is c.requires in
-    let first = first_text hs c.args.texts.now c.as_slice-in-Compile.result.now c.index-as_slice-0.result c.as_bytes.result.now are c.as_slice-in-Compile.ensures some c.index-as_slice-0.is c.as_bytes.ensures in
-    let others = others_are c.args.texts.now c.as_slice.result.now c.in_ok-ifaces-in-Compile.ifaces c.as_slice.ensures c.in_ok-ifaces-in-Compile.ensures in
-    compile_done c.args.command.now _ c.in-Compile.name c.in_ok-copy-in-Compile.field-0 _ hs _ _ _ _ c.in-Compile.is c.in_ok-copy-in-Compile.ensures first (compile_told c.args.texts.now c.in_ok-ifaces-in-Compile.ifaces c.as_bytes.result.now (Ok c.in_ok-object-in-Compile.object) others c.in_ok-object-in-Compile.ensures.told)
+    let first = first_text hs c.args.texts.now c.as_slice-in-Compile-2.result.now c.index-as_slice-0-in-Compile.result c.as_bytes-in-Compile.result.now are c.as_slice-in-Compile-2.ensures some c.index-as_slice-0-in-Compile.is c.as_bytes-in-Compile.ensures in
+    let others = others_are c.args.texts.now c.as_slice-in-Compile.result.now c.in_ok-ifaces-in-Compile.ifaces c.as_slice-in-Compile.ensures c.in_ok-ifaces-in-Compile.ensures in
+    compile_done c.args.command.now _ c.in-Compile.name c.in_ok-copy-in-Compile.field-0 _ hs _ _ _ _ c.in-Compile.is c.in_ok-copy-in-Compile.ensures first (compile_told c.args.texts.now c.in_ok-ifaces-in-Compile.ifaces c.as_bytes-in-Compile.result.now (Ok c.in_ok-object-in-Compile.object) others c.in_ok-object-in-Compile.ensures.told)
 
 pub returns-in_err-program-in-Link-clause-told : goal.returns-in_err-program-in-Link-clause-told
 returns-in_err-program-in-Link-clause-told g c = λ hs are all.
