@@ -8,6 +8,8 @@ mod faults;
 #[cfg(test)]
 mod hello;
 #[cfg(test)]
+mod interfaces;
+#[cfg(test)]
 mod row;
 #[cfg(test)]
 mod rows;

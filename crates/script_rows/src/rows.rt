@@ -156,13 +156,13 @@ fn words_that_are_no_command_and_missing_files_are_told(
         message(alloc, &missing)?.as_bytes(),
         b"no file none".as_slice()
     );
-    let unbuilt = world.does(&[
+    let no_module = world.does(&[
         b"iface".as_slice(),
         b"h.scm".as_slice(),
         b"h.ifc".as_slice(),
     ])?;
     assert_eq!(rt;
-        message(alloc, &unbuilt)?.as_bytes(),
+        message(alloc, &no_module)?.as_bytes(),
         b"line 1: refusal 0".as_slice()
     );
     Ok(())
