@@ -12,8 +12,9 @@ use Rattle.core_tree.specs.declared.tree.GlobalRef.{GlobalRef}
 use Rattle.core_tree.specs.declared.tree.GlobalRef.TheVariants.{Own, Used}
 use Rattle.core_tree.specs.declared.tree.Node.{Node, fold-Node}
 use Rattle.core_tree.specs.declared.tree.Node.TheOpen.{Node-F}
+use Rattle.core_tree.specs.declared.tree.Lambda.{Lambda}
 use Rattle.core_tree.specs.declared.tree.Top.{Top}
-use Rattle.core_tree.specs.declared.tree.Top.TheVariants.{Function}
+use Rattle.core_tree.specs.declared.tree.Top.TheVariants.{Function, Form}
 use Rattle.core_tree.specs.declared.tree.ImportItem.{ImportItem}
 use Rattle.core_tree.specs.declared.tree.Use.{Use}
 use Rattle.core_tree.specs.declared.tree.Use.TheVariants.{From, Need}
@@ -54,19 +55,31 @@ pub record FunctionTree : Type 0 where
   pub params : List VarId
   pub body : Tree
 
+-- a module: its functions, and the expressions among its top-level forms, both in source order
 pub record ModuleTree : Type 0 where
   pub name : List ℕ
   pub imports : List ImportItem
   pub functions : List FunctionTree
+  pub forms : Trees
   pub uses : List Use
   pub exports : List Row
   pub main : Option (List ℕ)
 
-abbrev pub function_tree : Top → FunctionTree
-function_tree (Function name lambda) = record { name = name; params = lambda.params; body = tree lambda.body }
+abbrev pub function_tree : List ℕ → Lambda → FunctionTree
+function_tree name lambda = record { name = name; params = lambda.params; body = tree lambda.body }
+
+abbrev pub functions_in : List Top → List FunctionTree
+functions_in [] = []
+functions_in (Function name lambda ∷ tops) = function_tree name lambda ∷ functions_in tops
+functions_in (Form n ∷ tops) = functions_in tops
+
+abbrev pub forms_in : List Top → Trees
+forms_in [] = none
+forms_in (Function name lambda ∷ tops) = forms_in tops
+forms_in (Form n ∷ tops) = more (tree n) (forms_in tops)
 
 abbrev pub module_tree : Module → ModuleTree
-module_tree m = record { name = m.name; imports = m.imports; functions = map function_tree m.tops; uses = m.uses; exports = m.exports; main = m.main }
+module_tree m = record { name = m.name; imports = m.imports; functions = functions_in m.tops; forms = forms_in m.tops; uses = m.uses; exports = m.exports; main = m.main }
 
 -- Look-up -----------------------------------------------------------------------------------
 
@@ -76,11 +89,6 @@ is_called name f = pointwise nat_eq f.name name
 -- the function of a name
 abbrev pub function_named : List FunctionTree → List ℕ → Option FunctionTree
 function_named functions name = find (is_called name) functions
-
--- the function of the module that is called
-abbrev pub function_of : List FunctionTree → GlobalRef → Option FunctionTree
-function_of functions (Own n) = slice_get functions n
-function_of functions (Used n) = None
 
 -- Callees -----------------------------------------------------------------------------------
 

@@ -154,6 +154,7 @@ pub record IsWellFormed (m : ModuleTree) : Type 0 where
   pub name : IsName m.name
   pub imports : AreImports m.imports
   pub functions : AreFunctions m m.functions
+  pub forms : AreExpressions m [] m.forms
   pub distinct : IsTrue (are_distinct (map (λ f. f.name) m.functions))
   pub uses : AreUses m m.uses
   pub once : IsTrue (each_once m.uses)

@@ -17,7 +17,7 @@ pub enum Const {
 /// A function that is called by its name.
 #[derive(Clone, Copy, Debug, PartialEq, Eq)]
 pub enum GlobalRef {
-    /// A function of this module, by its number in source order from 0.
+    /// A function of this module, by its number among its functions in source order from 0.
     Own(u32),
     /// A function of another module, by its place in the uses of this one from 0.
     Used(u32),
@@ -41,10 +41,11 @@ pub struct Lambda {
     pub body: Node,
 }
 
-/// A top-level form.
+/// A top-level form: the definition of a function, or an expression that is evaluated when the module is initialised.
 #[derive(Drop)]
 pub enum Top {
     Function(Text, Lambda),
+    Form(Node),
 }
 
 /// An item of an `import` clause: a module, and the names that are imported from it.
