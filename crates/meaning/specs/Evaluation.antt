@@ -1,10 +1,11 @@
--- Evaluation (R5RS section 4): operator and arguments left to right, and one turn for each call of a user procedure.
+-- Evaluation in a program of several modules (R5RS section 4): operator and arguments left to right, and one turn for each call of a user procedure.
 use Rattle.std.specs.Prelude.{ℕ, zero, suc, List, [], ◌∷◌, length, Bool, true, Option, Some, None, if◌then◌else◌}
 use Rattle.core_tree.specs.declared.tree.Const.{Const}
 use Rattle.core_tree.specs.declared.tree.Const.TheVariants.{Int, Bool as Truth}
 use Rattle.core_tree.specs.declared.tree.VarId.{VarId}
-use Rattle.core_tree.specs.Tree.{Tree, Constant, Variable, If, Sequence, Call, Primitive, Trees, none, more, FunctionTree, function_of}
+use Rattle.core_tree.specs.Tree.{Tree, Constant, Variable, If, Sequence, Call, Primitive, Trees, none, more, FunctionTree, ModuleTree, callee_of}
 use Rattle.core_tree.specs.WellFormed.{same_variable}
+use Rattle.meaning.specs.Procedures.{Procedure, procedure_of}
 use Rattle.meaning.specs.Value.{Value, Fixnum, Boolean, Empty, Unspecified, State, Outcome, Gives, Spends, bind, take_turn}
 use Rattle.meaning.specs.Primitives.{primitive, counted}
 
@@ -12,9 +13,9 @@ use Rattle.meaning.specs.Primitives.{primitive, counted}
 abbrev pub Environment : Type 0
 Environment = List (VarId × Value)
 
--- what a body does after its turn was taken, with a smaller bound
+-- what a body of a module does after its turn was taken, with a smaller bound
 abbrev pub Lower : Type 0
-Lower = Tree → Environment → State → Outcome Value
+Lower = ModuleTree → Tree → Environment → State → Outcome Value
 
 abbrev pub bound : List VarId → List Value → Environment → Environment
 bound (x ∷ xs) (v ∷ vs) env = (x, v) ∷ bound xs vs env
@@ -30,14 +31,14 @@ abbrev pub valued : Option Value → State → Outcome Value
 valued None s = Spends s
 valued (Some v) s = Gives v s
 
--- a call of a function: the number of its arguments, a turn, the body
-abbrev pub apply : Lower → FunctionTree → List Value → State → Outcome Value
-apply lower f vs s = counted (length f.params) (length vs) s (take_turn s (λ s1. lower f.body (bound f.params vs []) s1))
+-- a call of a function: the number of its arguments, a turn, the body in the function's own module
+abbrev pub apply : Lower → ModuleTree → FunctionTree → List Value → State → Outcome Value
+apply lower m f vs s = counted (length f.params) (length vs) s (take_turn s (λ s1. lower m f.body (bound f.params vs []) s1))
 
--- the functions that a program of one module calls are there
-abbrev pub called : Lower → Option FunctionTree → List Value → State → Outcome Value
+-- the functions that a whole program calls are there
+abbrev pub called : Lower → Option Procedure → List Value → State → Outcome Value
 called lower None vs s = Spends s
-called lower (Some f) vs s = apply lower f vs s
+called lower (Some p) vs s = apply lower p.home p.function vs s
 
 abbrev pub constant : Const → Value
 constant (Int n) = Fixnum n
@@ -50,15 +51,15 @@ is_true (Fixnum n) = true
 is_true Empty = true
 is_true Unspecified = true
 
--- The functions of the module, and what bodies do below.
-module _ (functions : List FunctionTree) (lower : Lower) where
+-- The program, the module in which an expression stands, and what bodies do below.
+module _ (program : List ModuleTree) (m : ModuleTree) (lower : Lower) where
   abbrev mutual
     pub ev : Tree → Environment → State → Outcome Value
     ev (Constant c) env s = Gives (constant c) s
     ev (Variable x) env s = valued (value_of x env) s
     ev (If a b c) env s = bind (ev a env s) (λ v s1. if is_true v then ev b env s1 else ev c env s1)
     ev (Sequence ts) env s = ev_last ts Unspecified env s
-    ev (Call g ts) env s = bind (evs ts env s) (λ vs s1. called lower (function_of functions g) vs s1)
+    ev (Call g ts) env s = bind (evs ts env s) (λ vs s1. called lower (procedure_of program (callee_of m g)) vs s1)
     ev (Primitive p ts) env s = bind (evs ts env s) (λ vs s1. primitive p vs s1)
 
     -- in order; the value of the last part
@@ -72,6 +73,6 @@ module _ (functions : List FunctionTree) (lower : Lower) where
     evs (more t ts) env s = bind (ev t env s) (λ v s1. bind (evs ts env s1) (λ vs s2. Gives (v ∷ vs) s2))
 
 -- with a bound that is at least the turns left
-abbrev pub run : List FunctionTree → ℕ → Lower
-run functions zero t env s = Spends s
-run functions (suc b) t env s = ev functions (run functions b) t env s
+abbrev pub run : List ModuleTree → ℕ → Lower
+run program zero m t env s = Spends s
+run program (suc b) m t env s = ev program m (run program b) t env s

@@ -1,5 +1,8 @@
 pub mod Evaluation
+pub mod Order
 pub mod Primitives
+pub mod Procedures
 pub mod Program
+pub mod ProgramRows
 pub mod Rows
 pub mod Value

@@ -24,8 +24,8 @@ abbrev pub line_end : Tree
 line_end = Primitive Newline none
 
 -- `(module hello (main go)) (define (go args) ...)`
-abbrev pub program : Trees → ModuleTree
-program body = record { name = codes "hello"; imports = []; uses = []; exports = []; functions = record { name = codes "go"; params = record { 0 = 0 } ∷ []; body = Sequence body } ∷ []; main = Some (codes "go") }
+abbrev pub program : Trees → List ModuleTree
+program body = record { name = codes "hello"; imports = []; uses = []; exports = []; forms = none; functions = record { name = codes "go"; params = record { 0 = 0 } ∷ []; body = Sequence body } ∷ []; main = Some (codes "go") } ∷ []
 
 abbrev pub observation : List ℕ → End → Observation
 observation output end = record { output = output; end = end }
@@ -70,8 +70,8 @@ abbrev pub x : ℕ → VarId
 x n = record { 0 = n }
 
 -- a first function, and `(define (go args) ...)`
-abbrev pub calling : FunctionTree → Trees → ModuleTree
-calling f body = record { name = codes "t"; imports = []; uses = []; exports = []; functions = f ∷ function (codes "go") (x 9 ∷ []) body ∷ []; main = Some (codes "go") }
+abbrev pub calling : FunctionTree → Trees → List ModuleTree
+calling f body = record { name = codes "t"; imports = []; uses = []; exports = []; forms = none; functions = f ∷ function (codes "go") (x 9 ∷ []) body ∷ []; main = Some (codes "go") } ∷ []
 
 abbrev pub call_of : Trees → Tree
 call_of args = Call (Own 0) args
@@ -82,7 +82,7 @@ unfolding src decimal_text
 wrong_number_is_error_2 = refl
 
 -- `(define (f a b) (display a) (newline) b)`: the arguments come first, left to right
-abbrev pub second_of : ModuleTree
+abbrev pub second_of : List ModuleTree
 second_of =
     calling (function (codes "f") (x 0 ∷ x 1 ∷ []) (more (shown (variable 0)) (more line_end (more (variable 1) none))))
     (more (shown (call_of (more (call_of (more (int 1) (more (int 2) none))) (more (call_of (more (int 3) (more (int 4) none))) none)))) none)
@@ -96,7 +96,7 @@ unfolding src decimal_text
 a_call_with_no_turn_left_is_spent = refl
 
 -- `(define (f) (display 7) (f))` for ever
-abbrev pub endless : ModuleTree
+abbrev pub endless : List ModuleTree
 endless = calling (function (codes "f") [] (more (shown (int 7)) (more (call_of none) none))) (more (call_of none) none)
 
 a_call_for_ever_is_spent_exactly : src endless [] [] 5 ≡ observation (codes "7777") Spent
@@ -112,7 +112,7 @@ abbrev pub less_than : Tree → Tree → Tree
 less_than a b = Primitive Less (more a (more b none))
 
 -- `(define (f n) (if (< n 3) (f (+ n 1)) n))` and `(display (f 0))`
-abbrev pub counts_to_three : ModuleTree
+abbrev pub counts_to_three : List ModuleTree
 counts_to_three =
     calling (function (codes "f") (x 0 ∷ []) (more (If (less_than (variable 0) (int 3)) (call_of (more (sum_of (variable 0) (int 1)) none)) (variable 0)) none))
     (more (shown (call_of (more (int 0) none))) none)

@@ -7,9 +7,9 @@ pub data Value : Type 0 where
   Empty : Value
   Unspecified : Value
 
--- what the store has at a place: a closure of a function of the module
+-- what the store has at a place: a closure of a function, by its module's name and its number there
 pub data Object : Type 0 where
-  Closure : ℕ → Object
+  Closure : List ℕ → ℕ → Object
 
 -- the store, the top-level variables (none where unset), the output, the input that is left, the turns left
 pub record State : Type 0 where
