@@ -266,7 +266,7 @@ pub record TrFunction (m : ModuleTree) (f : FunctionTree) (g : Fun) : Type 0 whe
   pub looped : g.code ≡ loop label body done
   pub translated : Tr m (scope_of f.params g.params) (variables_of g) (Sequence (more f.body none)) Obj (map (λ v. v.name) g.params) back body done
 
--- a function without parameters that does nothing: it gives `BGL_UNSPEC`
+-- a function without parameters and locals that does nothing: it gives `BGL_UNSPEC`
 pub record IsEmpty (name : Name) (g : Fun) : Type 0 where
   pub named : g.name ≡ name
   pub result : g.result ≡ c_ty.Obj
@@ -280,12 +280,19 @@ DefineNothing [] = Unit {0}
 DefineNothing (declared t name params ∷ is) = DefineNothing is
 DefineNothing (defined g ∷ is) = ⊥
 
+-- a function without parameters whose statements are those of the expressions among the module's top-level forms, in order, whose values nobody takes; it gives `BGL_UNSPEC`
+pub record TrForms (m : ModuleTree) (g : Fun) : Type 0 where
+  pub named : g.name ≡ initializer_name m.name
+  pub result : g.result ≡ c_ty.Obj
+  pub params : g.params ≡ []
+  pub translated : TrAllUnused m [] g.locals m.forms [] g.code (return (expr.Atom atom.Unspec) done)
+
 abbrev pub TrInitializer : ModuleTree → List Item → Type 0
 TrInitializer m [] = ⊥
 TrInitializer m (declared t name params ∷ is) = TrInitializer m is
-TrInitializer m (defined g ∷ is) = IsEmpty (initializer_name m.name) g × DefineNothing is
+TrInitializer m (defined g ∷ is) = TrForms m g × DefineNothing is
 
--- the definitions, in order: the module's functions, its maker, which has nothing to make as long as functions are no values, and its initialisation, which has nothing to do as long as definitions are all its forms. The other items are declarations
+-- the definitions, in order: the module's functions, its maker, which has nothing to make as long as functions are no values, and its initialisation. The other items are declarations
 abbrev pub TrFunctions : ModuleTree → List FunctionTree → List Item → Type 0
 TrFunctions m fs [] = ⊥
 TrFunctions m fs (declared t name params ∷ is) = TrFunctions m fs is
