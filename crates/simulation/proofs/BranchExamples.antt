@@ -19,8 +19,8 @@ use Rattle.plan_rules.specs.Joined.{joined}
 use Rattle.plan_rules.specs.Representation.{raise_type, operation, local}
 use Rattle.plan_rules.specs.Translation.{Name, Tr, TrUnused, TrAllUnused, TrLast, TrArguments, callees, is_sound_with, Translated}
 use Rattle.simulation.specs.Law.{KeepsMeaning, IsFaithful}
-use Rattle.simulation.proofs.ExampleUnits.{fresh, int, truth, sum_of, less_of, shown, line_end, variable, x0, x1, x2, x3, x4, x5, calls, var, plus, is_less, boxed, boxed_truth, a_number, a_word, a_local, call_first, calls_function, function, below, hello, one_word, unit, function_so, empties_so, declared_so, translated_so, kept_one, kept_two}
-use Rattle.simulation.proofs.Main.{keeps_meaning}
+use Rattle.simulation.proofs.ExampleUnits.{fresh, int, truth, sum_of, less_of, shown, line_end, f_name, go_name, x0, x1, x2, x3, x4, x5, x6, calls, var, plus, is_less, boxed, boxed_truth, a_number, a_word, variable, only, call_first, a_local, calls_function, function, below, hello, one_word, unit, part, go_of, linked, function_so, empties_so, translated_so, alone_so, declared_so, kept_one, kept_two}
+use Rattle.simulation.proofs.Faithful.{keeps_meaning}
 
 abbrev is_word_true : Name → CExpr
 is_word_true x = calls Truth (local x ∷ [])
@@ -358,20 +358,17 @@ truth_refused = translated_so refused_locals refused_body refused_code
 
 -- `(define (f n) (if (< n 3) (f (+ n 1)) n))` -----------------------------------------------
 
-abbrev f_name : Name
-f_name = codes "f"
-
 abbrev counting_body : Tree
-counting_body = If (less_of (variable 0) (int 3)) (call_first (more (sum_of (variable 0) (int 1)) none)) (variable 0)
+counting_body = only (If (less_of (variable 0) (int 3)) (call_first (more (sum_of (variable 0) (int 1)) none)) (variable 0))
 
 abbrev counting_function : FunctionTree
 counting_function = function f_name (record { 0 = 0 } ∷ []) counting_body
 
-abbrev counting : ModuleTree
-counting = below (counting_function ∷ []) (call_first (more (int 0) none))
+abbrev start_body : Tree
+start_body = only (call_first (more (int 0) none))
 
-abbrev x6 : Name
-x6 = codes "x6"
+abbrev counting : ModuleTree
+counting = below (counting_function ∷ []) start_body
 
 -- two locals serve both the test and the block
 abbrev counting_locals : List CVar
@@ -466,7 +463,7 @@ calls_in_a_block =
           },
         ),
         (
-          function_so counting (codes "go") (var Obj x1 ∷ []) (call_first (more (int 0) none)) start_code (
+          function_so counting go_name (var Obj x1 ∷ []) start_body start_code (
             refl,
             record {
               temporaries = x1 ∷ [];
@@ -478,7 +475,7 @@ calls_in_a_block =
               fit = kept_one _ x1 (x1 ∷ x0 ∷ []) _;
             },
           ),
-          empties_so counting,
+          empties_so counting refl,
         ),
       );
       declarations = (declared_so (callees counting) 0 (own_callee (codes "hello") counting_function) refl, tt);
@@ -487,9 +484,6 @@ calls_in_a_block =
     }
 
 -- Linked programs ---------------------------------------------------------------------------
-
-abbrev linked : List Item → List Item
-linked items = joined (codes "hello") (codes "go") items
 
 -- the arguments are the empty list, which is true
 argument_is_the_first : cm (linked (unit argument_locals argument_code)) [] [] 1 ≡ record { output = []; end = Ended 4 }
@@ -529,6 +523,9 @@ unfolding cm joined decimal_text function_name maker_name initializer_name
 counts_up = refl
 
 -- and the law says so of the module
-faithful : IsFaithful counting (codes "go") counting_unit
+faithful : IsFaithful (counting ∷ []) (part (codes "hello") counting_unit ∷ []) (go_of (codes "hello"))
 unfolding KeepsMeaning
-faithful = keeps_meaning counting (codes "go") counting_unit refl (record { no_imports = refl; no_uses = refl; function = _; is = refl; one = (record { 0 = 0 }, refl) }) calls_in_a_block
+faithful =
+    keeps_meaning (counting ∷ []) (part (codes "hello") counting_unit ∷ [])
+    (alone_so (counting_function ∷ []) start_body (record { name = search rules; body = search rules }, (record { name = search rules; body = search rules }, tt)) refl refl)
+    (refl, calls_in_a_block, tt)

@@ -14,15 +14,12 @@ use Rattle.c_tree.specs.Spelling.{NamedItems}
 use Rattle.c_meaning.specs.Program.{cm}
 use Rattle.plan_rules.specs.Joined.{joined}
 use Rattle.plan_rules.specs.Representation.{raise_count, call_of, operation, local}
-use Rattle.plan_rules.specs.Translation.{Name, Tr, TrUnused, TrAllUnused, TrLast, TrArguments, callees, is_sound_with, Translated}
+use Rattle.plan_rules.specs.Translation.{Tr, TrUnused, TrAllUnused, TrLast, TrArguments, callees, is_sound_with, Translated}
 use Rattle.simulation.specs.Law.{KeepsMeaning, IsFaithful}
-use Rattle.simulation.proofs.ExampleUnits.{fresh, int, sum_of, shown, variable, x0, x1, x2, x3, x4, calls, var, plus, boxed, a_number, a_word, a_local, call_first, calls_function, function, below, one_word, unit, Body, function_so, empties_so, declared_so, kept_one, kept_two}
-use Rattle.simulation.proofs.Main.{keeps_meaning}
+use Rattle.simulation.proofs.ExampleUnits.{fresh, int, sum_of, shown, f_name, go_name, x0, x1, x2, x3, x4, calls, var, plus, boxed, a_number, a_word, variable, only, call_first, a_local, calls_function, function, below, one_word, unit, part, go_of, linked, Body, function_so, empties_so, alone_so, declared_so, kept_one, kept_two}
+use Rattle.simulation.proofs.Faithful.{keeps_meaning}
 
 -- Calls of `(define (f n) n)` ---------------------------------------------------------------
-
-abbrev f_name : Name
-f_name = codes "f"
 
 abbrev same : FunctionTree
 same = function f_name (record { 0 = 0 } ∷ []) (variable 0)
@@ -36,7 +33,7 @@ units locals code = defined (one_word f_name [] (return (a_local x0) done)) ∷ 
 calling_so : (locals : List CVar) (body : Tree) (code : Code) → Body (calling body) locals body code → NamedItems (units locals code) → is_sound_with [] (units locals code) ≡ true → Translated (calling body) (units locals code)
 unfolding Tr TrUnused TrAllUnused TrLast TrArguments
 calling_so locals body code translated named sound =
-    record { functions = (function_so (calling body) f_name [] (variable 0) _ (refl, refl), (function_so (calling body) (codes "go") locals body code translated, empties_so (calling body))); declarations = tt; named = named; sound = sound }
+    record { functions = (function_so (calling body) f_name [] (variable 0) _ (refl, refl), (function_so (calling body) go_name locals body code translated, empties_so (calling body) refl)); declarations = tt; named = named; sound = sound }
 
 abbrev f_of : Tree → Tree
 f_of t = call_first (more t none)
@@ -210,8 +207,11 @@ endless_body = Sequence (more (shown (variable 0)) (more (f_of (variable 0)) non
 abbrev endless_function : FunctionTree
 endless_function = function f_name (record { 0 = 0 } ∷ []) endless_body
 
+abbrev start_body : Tree
+start_body = only (f_of (int 7))
+
 abbrev endless : ModuleTree
-endless = below (endless_function ∷ []) (f_of (int 7))
+endless = below (endless_function ∷ []) start_body
 
 abbrev again_code : Code
 again_code = assign x2 (a_local x0) (return (calls_function f_name (local x2 ∷ [])) done)
@@ -254,7 +254,7 @@ calls_itself =
               );
             }),
         (
-          function_so endless (codes "go") (var Obj x1 ∷ []) (f_of (int 7)) tail_code (
+          function_so endless go_name (var Obj x1 ∷ []) start_body tail_code (
             refl,
             record {
               temporaries = x1 ∷ [];
@@ -266,7 +266,7 @@ calls_itself =
               fit = kept_one _ x1 (x1 ∷ x0 ∷ []) _;
             },
           ),
-          empties_so endless,
+          empties_so endless refl,
         ),
       );
       declarations = (declared_so (callees endless) 0 (own_callee (codes "hello") endless_function) refl, tt);
@@ -275,9 +275,6 @@ calls_itself =
     }
 
 -- Linked programs ---------------------------------------------------------------------------
-
-abbrev linked : List Item → List Item
-linked items = joined (codes "hello") (codes "go") items
 
 call_prints : cm (linked (units (var Obj x1 ∷ var Obj x2 ∷ []) local_code)) [] [] 2 ≡ record { output = codes "7"; end = Ended 0 }
 unfolding cm joined decimal_text function_name maker_name initializer_name
@@ -296,6 +293,9 @@ unfolding cm joined decimal_text function_name maker_name initializer_name
 for_ever = refl
 
 -- and the law says so of the module
-faithful : IsFaithful endless (codes "go") endless_unit
+faithful : IsFaithful (endless ∷ []) (part (codes "hello") endless_unit ∷ []) (go_of (codes "hello"))
 unfolding KeepsMeaning
-faithful = keeps_meaning endless (codes "go") endless_unit refl (record { no_imports = refl; no_uses = refl; function = _; is = refl; one = (record { 0 = 0 }, refl) }) calls_itself
+faithful =
+    keeps_meaning (endless ∷ []) (part (codes "hello") endless_unit ∷ [])
+    (alone_so (endless_function ∷ []) start_body (record { name = search rules; body = search rules }, (record { name = search rules; body = search rules }, tt)) refl refl)
+    (refl, calls_itself, tt)

@@ -1,28 +1,27 @@
 -- Calls of translated functions do what the functions do.
 use Rattle.std.proofs.Common.{◌≡◌, ℕ, zero, suc, ◌≤◌, List, [], length, Some, refl, sym, ap, ◌∙◌, subst, arith}
 use Rattle.std.specs.Prelude.{slice_get, map}
-use Rattle.core_tree.specs.declared.tree.GlobalRef.{GlobalRef}
-use Rattle.core_tree.specs.Tree.{Sequence, none, more, FunctionTree, ModuleTree, function_of}
+use Rattle.core_tree.specs.Tree.{Sequence, none, more, FunctionTree, ModuleTree, Callee}
 use Rattle.meaning.specs.Value.{Value, Unspecified, State, Outcome, take_from, take_turn}
 use Rattle.meaning.specs.Value as src
+use Rattle.meaning.specs.Procedures.{Procedure, procedure_of}
 use Rattle.meaning.specs.Evaluation as source
 use Rattle.meaning.specs.Evaluation.{Environment, bound, ev}
 use Rattle.c_tree.specs.Code.{done, Fun}
-use Rattle.c_tree.specs.Names.{function_name}
 use Rattle.c_meaning.specs.Word.{Word}
 use Rattle.c_meaning.specs.State.{Cell, Frame, State as CState, Flow, Answer, blank, answer}
 use Rattle.c_meaning.specs.State as c
 use Rattle.c_meaning.specs.Execution.{Lower, run, exec, again, looped, enter, entry, fun_named, names_of}
 use Rattle.c_meaning.specs.Checked.{variables_of}
 use Rattle.plan_rules.specs.declared.rep.Rep.TheVariants.{Obj}
-use Rattle.plan_rules.specs.Translation.{back, scope_of, TrFunction}
+use Rattle.plan_rules.specs.Translation.{Name, back, scope_of, c_name_of, TrFunction}
 use Rattle.simulation.proofs.Frames.{names}
 use Rattle.simulation.proofs.Worlds.{World, AtBlock, WordOf, IsRep, Words, Grows, hide, Frozen, Same}
 use Rattle.simulation.proofs.Restored.{restore, restore_grows, restore_block, word_blocks, cell_blocks, words_hidden, same_hidden, same_restored}
 use Rattle.simulation.proofs.Ends.{Base, Answered, StopsToo, EndsToo, At}
 use Rattle.simulation.proofs.Scopes.{Scoped, parameters}
 use Rattle.simulation.proofs.Found.{Found}
-use Rattle.simulation.proofs.Callees.{CallsDo}
+use Rattle.simulation.proofs.Callees.{CallsDo, Linked}
 use Rattle.simulation.proofs.Nodes.{one_part, sim}
 
 -- The callee's world ------------------------------------------------------------------------
@@ -86,7 +85,7 @@ same_turn world n s t h = record { output = h.output; input = h.input; turns = r
 
 -- One function ------------------------------------------------------------------------------
 
-module _ (p : List Fun) (m : ModuleTree) (no_uses : m.uses ≡ []) (f : FunctionTree) (g : Fun) (tr : TrFunction m f g) where
+module _ (p : List Fun) (program : List ModuleTree) (m : ModuleTree) (linked : Linked program m) (f : FunctionTree) (g : Fun) (tr : TrFunction m f g) where
   -- an iteration's end is the call's end
   abbrev iterated : ℕ → Flow → Answer
   iterated b2 flow = answer (again (run p b2) (names_of g) tr.label tr.body flow)
@@ -104,7 +103,7 @@ module _ (p : List Fun) (m : ModuleTree) (no_uses : m.uses ≡ []) (f : Function
   body_ends lower b2 n b s (src.Spends s1) flow e is h = record { later = h.later; t = h.t; is = ap (iterated b2) h.is; same = h.same }
 
   -- calls in the body find fewer turns
-  entered : (limit b b2 : ℕ) → CallsDo p (run p b2) m (source.run m.functions b) limit → (k : ℕ) (env : Environment) (frame : Frame) (world : World) (s : State) (t : CState) → s.turns ≡ k → k ≤ suc limit → Scoped (variables_of g) world frame (names g.params) (scope_of f.params g.params) env → Same world s t → Called world s (take_from k s (λ s1. source.run m.functions (suc b) f.body env s1)) (at_turns (suc b2) frame k t)
+  entered : (limit b b2 : ℕ) → CallsDo p (run p b2) program (source.run program b) limit → (k : ℕ) (env : Environment) (frame : Frame) (world : World) (s : State) (t : CState) → s.turns ≡ k → k ≤ suc limit → Scoped (variables_of g) world frame (names g.params) (scope_of f.params g.params) env → Same world s t → Called world s (take_from k s (λ s1. source.run program (suc b) m f.body env s1)) (at_turns (suc b2) frame k t)
   entered limit b b2 calls zero env frame world s t e low scoped same = record { later = world; t = t; is = refl; same = same }
   entered limit b b2 calls (suc k) env frame world s t e low scoped same =
       let s1 : State = record s { turns = k } in
@@ -113,42 +112,46 @@ module _ (p : List Fun) (m : ModuleTree) (no_uses : m.uses ≡ []) (f : Function
       let vars = variables_of g in
       let scope = scope_of f.params g.params in
       let lower = run p b2 in
-      let lo = source.run m.functions b in
+      let lo = source.run program b in
       let fewer : k ≤ limit = omega (arith, low) in
-      let body = sim vars p lower m no_uses scope lo limit calls (Sequence (more f.body none)) Obj base back tr.body done env t1 tr.translated tt (record { scoped = scoped; same = same_turn world k s t same; turns = fewer }) in
-      body_ends lower (suc b2) k base s (ev m.functions lo f.body env s1) (exec p lower (names_of g) tr.body frame t1) e refl
-      (subst (λ o. At vars p lower back Obj done base o (exec p lower (names_of g) tr.body frame t1)) (one_part m.functions lo f.body Unspecified env s1) body)
+      let body = sim vars p lower program m linked scope lo limit calls (Sequence (more f.body none)) Obj base back tr.body done env t1 tr.translated tt (record { scoped = scoped; same = same_turn world k s t same; turns = fewer }) in
+      body_ends lower (suc b2) k base s (ev program m lo f.body env s1) (exec p lower (names_of g) tr.body frame t1) e refl
+      (subst (λ o. At vars p lower back Obj done base o (exec p lower (names_of g) tr.body frame t1)) (one_part program m lo f.body Unspecified env s1) body)
 
   -- the call enters the function's loop
-  enters : (b2 : ℕ) (cs : List Cell) (s : State) (t : CState) → fun_named p (function_name m.name f.name) ≡ Some g → s.turns ≡ t.turns → enter (run p b2) (fun_named p (function_name m.name f.name)) cs t ≡ at_turns b2 (entry g cs) s.turns t
-  enters b2 cs s t at e =
+  enters : (b2 : ℕ) (n : Name) (cs : List Cell) (s : State) (t : CState) → fun_named p n ≡ Some g → s.turns ≡ t.turns → enter (run p b2) (fun_named p n) cs t ≡ at_turns b2 (entry g cs) s.turns t
+  enters b2 n cs s t at e =
       ap (λ x. enter (run p b2) x cs t) at ∙ ap (λ x. answer (looped (run p b2) (names_of g) x (entry g cs) t)) tr.looped ∙ ap (λ k. at_turns b2 (entry g cs) k t) (sym e)
 
 -- All functions -----------------------------------------------------------------------------
 
-module _ (p : List Fun) (m : ModuleTree) (no_uses : m.uses ≡ []) (finds : (r : GlobalRef) (f : FunctionTree) → function_of m.functions r ≡ Some f → Found m p f) where
-  function_does : (limit b b2 : ℕ) → CallsDo p (run p b2) m (source.run m.functions b) limit → (f : FunctionTree) → Found m p f → (vs : List Value) (cs : List Cell) (world : World) (s : State) (t : CState) → Words world vs cs → length vs ≡ length f.params → Same world s t → s.turns ≤ suc limit → Answered world s Obj (take_turn s (λ s1. source.run m.functions (suc b) f.body (bound f.params vs []) s1)) (enter (run p (suc b2)) (fun_named p (function_name m.name f.name)) cs t)
-  function_does limit b b2 calls f h vs cs world s t words many same low =
+-- each function of the program is found, and what its module calls is there
+module _ (p : List Fun) (program : List ModuleTree) (finds : (c : Callee) (q : Procedure) → procedure_of program (Some c) ≡ Some q → Found p (c_name_of c) (TrFunction q.home q.function)) (links : (c : Callee) (q : Procedure) → procedure_of program (Some c) ≡ Some q → Linked program q.home) where
+  function_does : (limit b b2 : ℕ) → CallsDo p (run p b2) program (source.run program b) limit → (c : Callee) (q : Procedure) → Linked program q.home → Found p (c_name_of c) (TrFunction q.home q.function) → (vs : List Value) (cs : List Cell) (world : World) (s : State) (t : CState) → Words world vs cs → length vs ≡ length q.function.params → Same world s t → s.turns ≤ suc limit → Answered world s Obj (take_turn s (λ s1. source.run program (suc b) q.home q.function.body (bound q.function.params vs []) s1)) (enter (run p (suc b2)) (fun_named p (c_name_of c)) cs t)
+  function_does limit b b2 calls c q linked h vs cs world s t words many same low =
+      let m = q.home in
+      let f = q.function in
       let g = h.g in
-      let tr = h.translated in
+      let tr = h.is in
       let env = bound f.params vs [] in
-      let o = take_turn s (λ s1. source.run m.functions (suc b) f.body env s1) in
+      let o = take_turn s (λ s1. source.run program (suc b) m f.body env s1) in
       let scoped = parameters (hide world) f.params g.params g.locals (map (λ v. blank v.ty) g.locals) (words_hidden world words) many tr.params h.distinct in
-      let runs = entered p m no_uses f g tr limit b b2 calls s.turns env (entry g cs) (hide world) s t refl low scoped (same_hidden world s t same) in
-      subst (λ a. Answered world s Obj o a) (sym (enters p m no_uses f g tr (suc b2) cs s t h.at same.turns)) (from_call world s o (at_turns p m no_uses f g tr (suc b2) (entry g cs) s.turns t) runs)
+      let runs = entered p program m linked f g tr limit b b2 calls s.turns env (entry g cs) (hide world) s t refl low scoped (same_hidden world s t same) in
+      subst (λ a. Answered world s Obj o a) (sym (enters p program m linked f g tr (suc b2) (c_name_of c) cs s t h.at same.turns)) (from_call world s o (at_turns p program m linked f g tr (suc b2) (entry g cs) s.turns t) runs)
 
   -- where no turn is left
-  spent : (b b2 : ℕ) (f : FunctionTree) → Found m p f → (k : ℕ) (env : Environment) (cs : List Cell) (world : World) (s : State) (t : CState) → s.turns ≡ k → Same world s t → k ≤ 0 → Answered world s Obj (take_from k s (λ s1. source.run m.functions b f.body env s1)) (enter (run p b2) (fun_named p (function_name m.name f.name)) cs t)
-  spent b b2 f h zero env cs world s t e same low =
-      record { later = world; t = t; is = enters p m no_uses f h.g h.translated b2 cs s t h.at same.turns ∙ ap (λ k. at_turns p m no_uses f h.g h.translated b2 (entry h.g cs) k t) e; same = same }
-  spent b b2 f h (suc k) env cs world s t e same low = absurd (omega arith)
+  spent : (b b2 : ℕ) (c : Callee) (q : Procedure) → Linked program q.home → Found p (c_name_of c) (TrFunction q.home q.function) → (k : ℕ) (env : Environment) (cs : List Cell) (world : World) (s : State) (t : CState) → s.turns ≡ k → Same world s t → k ≤ 0 → Answered world s Obj (take_from k s (λ s1. source.run program b q.home q.function.body env s1)) (enter (run p b2) (fun_named p (c_name_of c)) cs t)
+  spent b b2 c q linked h zero env cs world s t e same low =
+      let f = q.function in
+      record { later = world; t = t; is = enters p program q.home linked f h.g h.is b2 (c_name_of c) cs s t h.at same.turns ∙ ap (λ k. at_turns p program q.home linked f h.g h.is b2 (entry h.g cs) k t) e; same = same }
+  spent b b2 c q linked h (suc k) env cs world s t e same low = absurd (omega arith)
 
   -- the bounds are free: each is at least the turns left
-  pub functions_do : (limit b b2 : ℕ) → limit ≤ b → limit ≤ b2 → (f : FunctionTree) → Found m p f → (vs : List Value) (cs : List Cell) (world : World) (s : State) (t : CState) → Words world vs cs → length vs ≡ length f.params → Same world s t → s.turns ≤ limit → Answered world s Obj (take_turn s (λ s1. source.run m.functions b f.body (bound f.params vs []) s1)) (enter (run p b2) (fun_named p (function_name m.name f.name)) cs t)
-  functions_do zero b b2 low low2 f h vs cs world s t words many same turns = spent b b2 f h s.turns (bound f.params vs []) cs world s t refl same turns
-  functions_do (suc limit) zero b2 low low2 f h vs cs world s t words many same turns = absurd (omega arith)
-  functions_do (suc limit) (suc b) zero low low2 f h vs cs world s t words many same turns = absurd (omega arith)
-  functions_do (suc limit) (suc b) (suc b2) low low2 f h vs cs world s t words many same turns =
+  pub functions_do : (limit b b2 : ℕ) → limit ≤ b → limit ≤ b2 → CallsDo p (run p b2) program (source.run program b) limit
+  functions_do zero b b2 low low2 c q at vs cs world s t words many same turns = spent b b2 c q (links c q at) (finds c q at) s.turns (bound q.function.params vs []) cs world s t refl same turns
+  functions_do (suc limit) zero b2 low low2 c q at vs cs world s t words many same turns = absurd (omega arith)
+  functions_do (suc limit) (suc b) zero low low2 c q at vs cs world s t words many same turns = absurd (omega arith)
+  functions_do (suc limit) (suc b) (suc b2) low low2 c q at vs cs world s t words many same turns =
       let below : limit ≤ b = omega (arith, low) in
       let below2 : limit ≤ b2 = omega (arith, low2) in
-      function_does limit b b2 (λ r f1 at vs1 cs1 world1 s1 t1 words1 many1 same1 turns1. functions_do limit b b2 below below2 f1 (finds r f1 at) vs1 cs1 world1 s1 t1 words1 many1 same1 turns1) f h vs cs world s t words many same turns
+      function_does limit b b2 (λ c1 q1 at1 vs1 cs1 world1 s1 t1 words1 many1 same1 turns1. functions_do limit b b2 below below2 c1 q1 at1 vs1 cs1 world1 s1 t1 words1 many1 same1 turns1) c q (links c q at) (finds c q at) vs cs world s t words many same turns

@@ -1,297 +1,236 @@
 -- The linked program is checked, and its names are right.
-use Rattle.std.proofs.Common.{◌≡◌, List, [], ◌∷◌, ◌++◌, Bool, true, false, Option, Some, None, refl, sym, ap, ◌∙◌, subst}
-use Rattle.std.specs.Prelude.{codes, find, filter, map, not, ◌&&◌, ◌||◌, if◌then◌else◌, IsTrue}
-use Rattle.std.specs.List.{list_any}
-use Rattle.std.proofs.lemmas.Bool.{and_from, and_parts}
-use Rattle.core_tree.specs.declared.tree.VarId.{VarId}
-use Rattle.core_tree.specs.Tree.{FunctionTree, ModuleTree, Callee, used_callees}
+use Rattle.std.proofs.Common.{◌≡◌, List, [], ◌∷◌, ◌++◌, length, Bool, true, false, Some, refl, sym, ap, ◌∙◌, subst, inl, inr}
+use Rattle.std.specs.Prelude.{codes, map, not, replicate, ◌&&◌, ◌||◌, if◌then◌else◌}
+use Rattle.std.specs.List.{list_any, list_all}
+use Rattle.std.proofs.lemmas.Bool.{and_from}
+use Rattle.std.proofs.lemmas.List.Folds.{list_any-append, list_all-append}
+use Rattle.core_tree.specs.Tree.{ModuleTree, Callee}
+use Rattle.core_tree.specs.WellFormed.{AreNames}
+use Rattle.meaning.specs.Procedures.{Procedure, procedure_of}
+use Rattle.meaning.specs.Program.{AreWellFormed, IsProgram}
 use Rattle.c_tree.specs.declared.tree.CTy.TheVariants.{Obj}
-use Rattle.c_tree.specs.declared.tree.CVar.{CVar}
-use Rattle.c_tree.specs.Code.{Fun, Item, declared, defined}
-use Rattle.c_tree.specs.Names.{function_name, maker_name, initializer_name, is_function_name, is_local_name, is_main, is_maker, is_initializer}
-use Rattle.c_tree.specs.Spelling.{NamedItem, NamedItems}
-use Rattle.c_meaning.specs.Execution.{is_same, fun_named}
-use Rattle.c_meaning.specs.Program.{functions_of}
-use Rattle.c_meaning.specs.Checked.{Signature, signature_of, same_signature, signature_named, same_type, AType, arguments_fit, call_fits_signature, is_the_type, has_type, are_distinct, Role, Main, Maker, Initializer, Function, role_of, may_call, function_fits, callable, item_fits, agrees, items_fit, defined_names, is_called_once, once_in, once_in_main, all_called, calls_each_once, is_sound, is_checked}
-use Rattle.plan_rules.specs.Representation.{local}
-use Rattle.plan_rules.specs.Joined.{first_local, second_local, main_item, joined}
-use Rattle.plan_rules.specs.Translation.{Name, TrFunction, TrInitializer, DefineNothing, TrFunctions, AreDeclared, c_name_of, outside_of, is_sound_with}
-use Rattle.simulation.proofs.Names.{same_name, is_itself, not_main, maker_not_main, initializer_not_main, maker_not_initializer, function_role, function_not_once, maker_is, initializer_is, maker_role, initializer_role, maker_once, initializer_once}
-use Rattle.simulation.proofs.Found.{is_defined, named_function, Empty_found}
-use Rattle.simulation.proofs.Signatures.{after, Typed, typed}
-
--- Names -------------------------------------------------------------------------------------
+use Rattle.c_tree.specs.Code.{Item, declared, defined}
+use Rattle.c_tree.specs.Names.{maker_name, initializer_name, is_main, is_maker, is_initializer}
+use Rattle.c_tree.specs.Spelling.{NamedItems}
+use Rattle.c_meaning.specs.Execution.{is_same}
+use Rattle.c_meaning.specs.Checked.{Signature, signature_of, same_signature, signature_named, are_distinct, Role, Main, Maker, Initializer, Function, role_of, may_call, callable, item_fits, agrees, items_fit, defined_names, is_called_once, once_in, once_in_main, all_called, calls_each_once, is_sound, is_checked}
+use Rattle.plan_rules.specs.Joined.{Part, main_function, joined}
+use Rattle.plan_rules.specs.Translation.{Name, c_name_of}
+use Rattle.simulation.specs.Law.{AreTranslated}
+use Rattle.simulation.proofs.NameKinds.{function_is_named, function_not_once, never_once, maker_is_once, initializer_is_once}
+use Rattle.simulation.proofs.Members.{Has}
+use Rattle.simulation.proofs.Links.{formed_at}
+use Rattle.simulation.proofs.Signatures.{or_later, after, defined_signed, fit_both, defined_both}
+use Rattle.simulation.proofs.Extended.{may_name, callable_found}
+use Rattle.simulation.proofs.Rights.{callee_named, same_procedure, Right, AllRight, ItemsRight, after_right, found_right, right_not_main}
+use Rattle.simulation.proofs.Distinct.{items_of, distinct_both, distinct_definitions}
+use Rattle.simulation.proofs.Units.{is_defined, defined_first, makers_defined, initializers_defined, callee_defined, units_right, units_fit}
+use Rattle.simulation.proofs.MainItem.{main_named, call_is, word_function, alone_is, lone_function, main_fits, called_in_main, main_once, once_distinct, is_met, units_met}
 
 abbrev main_name : Name
 main_name = codes "main"
 
--- neither a definition nor a declaration is of `main`
-abbrev pub NoMain : List Item → Type 0
-NoMain [] = Unit {0}
-NoMain (i ∷ is) = (is_main (signature_of i).name ≡ false) × NoMain is
+-- Modules and their names -------------------------------------------------------------------
 
-declares_none : (m : ModuleTree) (cs : List Callee) (items : List Item) → DefineNothing items → AreDeclared cs items → NoMain items
-declares_none m cs [] tr are = tt
-declares_none m cs (declared t n ps ∷ is) tr are = (ap is_main are.0.named ∙ not_main are.0.callee.module_name are.0.callee.name, declares_none m cs is tr are.1)
-declares_none m cs (defined g ∷ is) tr are = absurd tr
+abbrev module_names : List ModuleTree → List Name
+module_names ms = map (λ m. m.name) ms
 
-initializer_none : (m : ModuleTree) (cs : List Callee) (items : List Item) → TrInitializer m items → AreDeclared cs items → NoMain items
-initializer_none m cs [] tr are = tt
-initializer_none m cs (declared t n ps ∷ is) tr are = (ap is_main are.0.named ∙ not_main are.0.callee.module_name are.0.callee.name, initializer_none m cs is tr are.1)
-initializer_none m cs (defined g ∷ is) tr are = (ap is_main tr.0.named ∙ initializer_not_main m.name, declares_none m cs is tr.1 are)
+part_names : (ms : List ModuleTree) (parts : List Part) → AreTranslated ms parts → map (λ p. p.module_name) parts ≡ module_names ms
+part_names [] [] tr = refl
+part_names [] (p ∷ ps) tr = absurd tr
+part_names (m ∷ ms) [] tr = absurd tr
+part_names (m ∷ ms) (p ∷ ps) tr = ap (λ n. n ∷ map (λ q. q.module_name) ps) tr.0 ∙ ap (λ ns. m.name ∷ ns) (part_names ms ps tr.2)
 
-pub no_main : (m : ModuleTree) (cs : List Callee) (fs : List FunctionTree) (items : List Item) → TrFunctions m fs items → AreDeclared cs items → NoMain items
-no_main m cs fs [] tr are = tt
-no_main m cs [] (declared t n ps ∷ is) tr are = (ap is_main are.0.named ∙ not_main are.0.callee.module_name are.0.callee.name, no_main m cs [] is tr are.1)
-no_main m cs (f ∷ fs) (declared t n ps ∷ is) tr are = (ap is_main are.0.named ∙ not_main are.0.callee.module_name are.0.callee.name, no_main m cs (f ∷ fs) is tr are.1)
-no_main m cs (f ∷ fs) (defined g ∷ is) tr are = (ap is_main tr.0.name ∙ not_main m.name f.name, no_main m cs fs is tr.1 are)
-no_main m cs [] (defined g ∷ is) tr are = (ap is_main tr.0.named ∙ maker_not_main m.name, initializer_none m cs is tr.1 are)
+are_names : (ms : List ModuleTree) → AreWellFormed ms → AreNames (module_names ms)
+are_names [] formed = tt
+are_names (m ∷ ms) formed = (formed.0.name, are_names ms formed.1)
 
-defined_end : (items : List Item) (d : Item) → defined_names (items ++ d ∷ []) ≡ defined_names items ++ defined_names (d ∷ [])
-defined_end [] d = refl
-defined_end (declared t n ps ∷ is) d = defined_end is d
-defined_end (defined g ∷ is) d = ap (λ x. g.name ∷ x) (defined_end is d)
+has_name : (ms : List ModuleTree) (m : ModuleTree) → Has ms m → Has (module_names ms) m.name
+has_name [] m h = absurd h
+has_name (k ∷ ms) m (inl e) = inl (ap (λ x. x.name) e)
+has_name (k ∷ ms) m (inr h) = inr (has_name ms m h)
 
-none_is_main : (items : List Item) → NoMain items → list_any is_main (defined_names items) ≡ false
-none_is_main [] h = refl
-none_is_main (declared t n ps ∷ is) h = none_is_main is h.1
-none_is_main (defined g ∷ is) h = ap (λ b. b || list_any is_main (defined_names is)) h.0 ∙ none_is_main is h.1
+-- a module of each of the names
+each_name : (P : Name → Type 0) (ms : List ModuleTree) → ((m : ModuleTree) → Has ms m → P m.name) → (n : Name) → Has (module_names ms) n → P n
+each_name P [] each n h = absurd h
+each_name P (k ∷ ms) each n (inl e) = subst P e (each k (inl refl))
+each_name P (k ∷ ms) each n (inr h) = each_name P ms (λ m i. each m (inr i)) n h
 
-or_parts : (x y : Bool) → (x || y) ≡ false → (x ≡ false) × (y ≡ false)
-or_parts true y e = absurd (cc)
-or_parts false y e = (refl, e)
+-- the items of the linked program
+abbrev linked : List ModuleTree → List Part → Callee → List Item
+linked program parts main = items_of parts ++ main_function (module_names program) (c_name_of main) ∷ []
+
+joined_is : (program : List ModuleTree) (parts : List Part) (main : Callee) → AreTranslated program parts → joined parts main ≡ linked program parts main
+unfolding joined
+joined_is program parts main tr = ap (λ ns. items_of parts ++ main_function ns (c_name_of main) ∷ []) (part_names program parts tr)
+
+-- Names -------------------------------------------------------------------------------------
+
+named_both : (xs ys : List Item) → NamedItems xs → NamedItems ys → NamedItems (xs ++ ys)
+named_both [] ys named others = others
+named_both (x ∷ xs) ys named others = (named.0, named_both xs ys named.1 others)
+
+units_named : (ms : List ModuleTree) (parts : List Part) → AreTranslated ms parts → NamedItems (items_of parts)
+units_named [] [] tr = tt
+units_named [] (p ∷ ps) tr = absurd tr
+units_named (m ∷ ms) [] tr = absurd tr
+units_named (m ∷ ms) (p ∷ ps) tr = named_both p.items (items_of ps) tr.1.named (units_named ms ps tr.2)
+
+pub joined_named : (program : List ModuleTree) (parts : List Part) (is : IsProgram program) → AreTranslated program parts → NamedItems (joined parts is.main)
+joined_named program parts is tr =
+    let names = callee_named program is.formed is.main is.function is.is in
+    let main = main_named (module_names program) (c_name_of is.main) (are_names program is.formed) (function_is_named is.main.module_name is.main.name names.0 names.1) in
+    subst NamedItems (sym (joined_is program parts is.main tr)) (named_both (items_of parts) (main_function (module_names program) (c_name_of is.main) ∷ []) (units_named program parts tr) (main, tt))
+
+-- No other `main` ---------------------------------------------------------------------------
+
+none_is_main : (program : List ModuleTree) (items : List Item) → ItemsRight program items → list_any is_main (defined_names items) ≡ false
+none_is_main program [] right = refl
+none_is_main program (declared t n ps ∷ is) right = none_is_main program is right.1
+none_is_main program (defined g ∷ is) right = ap (λ b. b || list_any is_main (defined_names is)) (right_not_main program (signature_of (defined g)) right.0) ∙ none_is_main program is right.1
 
 -- the name `main` at the end is no other's
-any_end : (x : Name) (xs : List Name) → is_main x ≡ false → list_any (is_same x) (xs ++ main_name ∷ []) ≡ list_any (is_same x) xs
-any_end x [] other = ap (λ b. b || false) other
-any_end x (y ∷ ys) other = ap (λ b. is_same x y || b) (any_end x ys other)
-
-distinct_end : (xs : List Name) → are_distinct xs ≡ true → list_any is_main xs ≡ false → are_distinct (xs ++ main_name ∷ []) ≡ true
-distinct_end [] e other = refl
-distinct_end (x ∷ xs) e other =
-    let parts = and_parts (not (list_any (is_same x) xs)) (are_distinct xs) e in
-    let others = or_parts (is_main x) (list_any is_main xs) other in
-    and_from (not (list_any (is_same x) (xs ++ main_name ∷ []))) (are_distinct (xs ++ main_name ∷ [])) (ap not (any_end x xs others.0) ∙ parts.0) (distinct_end xs parts.1 others.1)
-
-main_is_there : (xs : List Name) → list_any is_main (xs ++ main_name ∷ []) ≡ true
-main_is_there [] = refl
-main_is_there (x ∷ xs) = go (is_main x) (main_is_there xs)
+apart_from_main : (xs : List Name) → list_any is_main xs ≡ false → list_all (λ x. not (list_any (is_same x) (main_name ∷ []))) xs ≡ true
+apart_from_main [] e = refl
+apart_from_main (x ∷ xs) e = go (is_main x) (list_any is_main xs) refl e (λ q. apart_from_main xs q)
   where
-    go : (b : Bool) → list_any is_main (xs ++ main_name ∷ []) ≡ true → (b || list_any is_main (xs ++ main_name ∷ [])) ≡ true
-    go true e = refl
-    go false e = e
+    go : (a b : Bool) → is_main x ≡ a → (a || b) ≡ false → (b ≡ false → list_all (λ y. not (list_any (is_same y) (main_name ∷ []))) xs ≡ true) → list_all (λ y. not (list_any (is_same y) (main_name ∷ []))) (x ∷ xs) ≡ true
+    go true b ea q later = absurd (cc)
+    go false b ea q later = and_from (not (is_main x || false)) (list_all (λ y. not (list_any (is_same y) (main_name ∷ []))) xs) (ap (λ z. not (z || false)) ea) (later q)
 
-any_longer : (x : Name) (xs more : List Name) → list_any (is_same x) xs ≡ true → list_any (is_same x) (xs ++ more) ≡ true
-any_longer x [] more e = absurd (cc)
-any_longer x (y ∷ ys) more e = go (is_same x y) e (λ e1. any_longer x ys more e1)
+none_once : (program : List ModuleTree) (items : List Item) (d : Item) → ItemsRight program items → once_in_main (items ++ d ∷ []) ≡ once_in_main (d ∷ [])
+none_once program [] d right = refl
+none_once program (declared t n ps ∷ is) d right = none_once program is d right.1
+none_once program (defined g ∷ is) d right = ap (λ b. if b then once_in g.code else once_in_main (is ++ d ∷ [])) (right_not_main program (signature_of (defined g)) right.0) ∙ none_once program is d right.1
+
+main_agrees : (program : List ModuleTree) (sigs : List Signature) (s : Signature) → AllRight program sigs → s.name ≡ main_name → agrees sigs s ≡ true
+main_agrees program [] s right e = refl
+main_agrees program (t ∷ sigs) s right e =
+    let other : is_same t.name s.name ≡ false = ap (is_same t.name) e ∙ right_not_main program t right.0 in
+    and_from (not (is_same t.name s.name) || same_signature t s) (agrees sigs s) (ap (λ b. not b || same_signature t s) other) (main_agrees program sigs s right.1 e)
+
+-- Calls in `main` ---------------------------------------------------------------------------
+
+-- `main` calls whatever isn't `main`
+main_may_call : (n : Name) → is_main n ≡ false → may_call Main (role_of n) ≡ true
+main_may_call n e = ap (λ b. may_call Main (if b then Main else others)) e ∙ go (is_maker n) (is_initializer n)
   where
-    go : (b : Bool) → (b || list_any (is_same x) ys) ≡ true → (list_any (is_same x) ys ≡ true → list_any (is_same x) (ys ++ more) ≡ true) → (b || list_any (is_same x) (ys ++ more)) ≡ true
-    go true e1 later = refl
-    go false e1 later = later e1
+    others : Role
+    others = if is_maker n then Maker else (if is_initializer n then Initializer else Function)
 
--- Items -------------------------------------------------------------------------------------
+    go : (a b : Bool) → may_call Main (if a then Maker else (if b then Initializer else Function)) ≡ true
+    go true b = refl
+    go false true = refl
+    go false false = refl
 
-filter_same : {X : Type 0} (p q : X → Bool) → ((x : X) → p x ≡ q x) → (xs : List X) → filter p xs ≡ filter q xs
-filter_same p q so [] = refl
-filter_same p q so (x ∷ xs) = ap (λ b. if b then x ∷ filter p xs else filter p xs) (so x) ∙ ap (λ ys. if q x then x ∷ ys else ys) (filter_same p q so xs)
+-- The program, its units, and the names that are defined in its text.
+module _ (program : List ModuleTree) (items : List Item) (right : ItemsRight program items) (names : List Name) (among : (n : Name) → is_defined items n ≡ true → list_any (is_same n) names ≡ true) where
+  abbrev sigs : List Signature
+  sigs = after items []
 
--- the role of a name that isn't `main`
-abbrev role_of_other : Name → Role
-role_of_other n = if is_maker n then Maker else (if is_initializer n then Initializer else Function)
+  -- the signature by which `main` calls a function of a unit
+  record Called (n : Name) : Type 0 where
+    s : Signature
+    at : signature_named (callable Main names sigs) n ≡ Some s
+    named : s.name ≡ n
+    right_one : Right program s
 
--- nobody calls `main`
-not_called : (role : Role) → may_call role Main ≡ false
-not_called Main = refl
-not_called Maker = refl
-not_called Initializer = refl
-not_called Function = refl
+  called : (n : Name) → is_defined items n ≡ true → Called n
+  called n here =
+      let h = defined_signed items n here in
+      let k = found_right program sigs n h.s (after_right program items [] right tt) h.at in
+      let other : is_main n ≡ false = ap is_main (sym k.named) ∙ right_not_main program h.s k.right in
+      let may : may_name Main names n ≡ true = and_from (may_call Main (role_of n)) (list_any (is_same n) names) (main_may_call n other) (among n here) in
+      record { s = h.s; at = callable_found Main names sigs n may ∙ h.at; named = k.named; right_one = k.right }
 
--- with `main` defined too, the same functions may be called
-callable_end : (role : Role) (names : List Name) (sigs : List Signature) → callable role (names ++ main_name ∷ []) sigs ≡ callable role names sigs
-callable_end role names sigs = filter_same (λ s. may_call role (role_of s.name) && list_any (is_same s.name) (names ++ main_name ∷ [])) (λ s. may_call role (role_of s.name) && list_any (is_same s.name) names) (λ s. same s.name (is_main s.name) refl) sigs
-  where
-    same : (n : Name) (b : Bool) → is_main n ≡ b → (may_call role (role_of n) && list_any (is_same n) (names ++ main_name ∷ [])) ≡ (may_call role (role_of n) && list_any (is_same n) names)
-    same n true e =
-        let role_is : role_of n ≡ Main = ap (λ b. if b then Main else role_of_other n) e in
-        let never : may_call role (role_of n) ≡ false = ap (may_call role) role_is ∙ not_called role in
-        ap (λ b. b && list_any (is_same n) (names ++ main_name ∷ [])) never ∙ sym (ap (λ b. b && list_any (is_same n) names) never)
-    same n false e = ap (λ b. may_call role (role_of n) && b) (any_end n names e)
+  once_called : (n : Name) → is_defined items n ≡ true → is_called_once n ≡ true → alone_is (signature_named (callable Main names sigs) n) ≡ true
+  once_called n here once = let h = called n here in ap alone_is h.at ∙ go h.s h.named h.right_one
+    where
+      go : (s : Signature) → s.name ≡ n → Right program s → alone_is (Some s) ≡ true
+      go s e (inl k) = absurd (never_once s.name k.callee.module_name k.callee.name k.named (ap is_called_once e ∙ once))
+      go s e (inr k) = lone_function s k.takes
 
-item_end : (names : List Name) (sigs : List Signature) (i : Item) → item_fits (names ++ main_name ∷ []) sigs i ≡ item_fits names sigs i
-item_end names sigs (declared t n ps) = refl
-item_end names sigs (defined g) = ap (λ s. function_fits s g) (callable_end (role_of g.name) names sigs)
-
-fit_end : (items : List Item) (names : List Name) (sigs : List Signature) (d : Item) → items_fit names sigs items ≡ true → (agrees (after items sigs) (signature_of d) && item_fits (names ++ main_name ∷ []) (after items sigs) d) ≡ true → items_fit (names ++ main_name ∷ []) sigs (items ++ d ∷ []) ≡ true
-fit_end [] names sigs d e last = and_from (agrees sigs (signature_of d) && item_fits (names ++ main_name ∷ []) sigs d) true last refl
-fit_end (i ∷ is) names sigs d e last =
-    let more = names ++ main_name ∷ [] in
-    let parts = and_parts (agrees sigs (signature_of i) && item_fits names sigs i) (items_fit names (signature_of i ∷ sigs) is) e in
-    and_from (agrees sigs (signature_of i) && item_fits more sigs i) (items_fit more (signature_of i ∷ sigs) (is ++ d ∷ []))
-    (ap (λ b. agrees sigs (signature_of i) && b) (item_end names sigs i) ∙ parts.0)
-    (fit_end is names (signature_of i ∷ sigs) d parts.1 last)
-
--- no signature is of `main`
-agrees_on : (items : List Item) → NoMain items → (sigs : List Signature) (s : Signature) → s.name ≡ main_name → agrees sigs s ≡ true → agrees (after items sigs) s ≡ true
-agrees_on [] h sigs s is_it e = e
-agrees_on (i ∷ is) h sigs s is_it e =
-    let other : is_same (signature_of i).name s.name ≡ false = ap (λ y. is_same (signature_of i).name y) is_it ∙ h.0 in
-    agrees_on is h.1 (signature_of i ∷ sigs) s is_it
-    (and_from (not (is_same (signature_of i).name s.name) || same_signature (signature_of i) s) (agrees sigs s) (ap (λ b. not b || same_signature (signature_of i) s) other) e)
-
--- The main function -------------------------------------------------------------------------
-
-find_kept : {X : Type 0} (p q : X → Bool) → ((x : X) → p x ≡ true → q x ≡ true) → (xs : List X) → find p (filter q xs) ≡ find p xs
-find_kept p q so [] = refl
-find_kept p q so (x ∷ xs) = go (p x) (q x) refl refl (find_kept p q so xs)
-  where
-    go : (a b : Bool) → p x ≡ a → q x ≡ b → find p (filter q xs) ≡ find p xs → find p (if b then x ∷ filter q xs else filter q xs) ≡ (if a then Some x else find p xs)
-    go true true ea eb later = ap (λ z. if z then Some x else find p (filter q xs)) ea
-    go true false ea eb later = absurd (let bad : false ≡ true = sym eb ∙ so x ea in cc)
-    go false true ea eb later = ap (λ z. if z then Some x else find p (filter q xs)) ea ∙ later
-    go false false ea eb later = later
-
--- a function that is defined may be called from `main`
-callable_found : (names : List Name) (sigs : List Signature) (n : Name) → may_call Main (role_of n) ≡ true → list_any (is_same n) names ≡ true → signature_named (callable Main names sigs) n ≡ signature_named sigs n
-callable_found names sigs n may there =
-    find_kept (λ s. is_same s.name n) (λ s. may_call Main (role_of s.name) && list_any (is_same s.name) names) (λ s e. let same : n ≡ s.name = sym (same_name s.name n e) in subst (λ y. (may_call Main (role_of y) && list_any (is_same y) names) ≡ true) same (and_from (may_call Main (role_of n)) (list_any (is_same n) names) may there)) sigs
-
-abbrev main_locals : List CVar
-main_locals = record { ty = Obj; name = first_local } ∷ record { ty = Obj; name = second_local } ∷ []
-
--- a call of a function of one word, which gives one
-abbrev call_is : Option Signature → Bool
-call_is s = is_the_type Obj (call_fits_signature main_locals s (local first_local ∷ []))
-
-word_function : (s : Signature) → s.result ≡ Obj → s.params ≡ Obj ∷ [] → call_is (Some s) ≡ true
-word_function s er ep = ap (λ ps. is_the_type Obj (if arguments_fit main_locals (map AType ps) (local first_local ∷ []) then Some s.result else None)) ep ∙ ap (λ t. same_type Obj t) er
-
--- a call of a function of no parameters
-abbrev alone_is : Option Signature → Bool
-alone_is s = has_type (call_fits_signature main_locals s [])
-
-lone_function : (s : Signature) → s.params ≡ [] → alone_is (Some s) ≡ true
-lone_function s ep = ap (λ ps. has_type (if arguments_fit main_locals (map AType ps) [] then Some s.result else None)) ep
-
-main_fits : (names : List Name) (sigs : List Signature) (m n : Name) → alone_is (signature_named (callable Main names sigs) (maker_name m)) ≡ true → alone_is (signature_named (callable Main names sigs) (initializer_name m)) ≡ true → call_is (signature_named (callable Main names sigs) n) ≡ true → item_fits names sigs (main_item m n) ≡ true
-main_fits names sigs m n made initialized called = rw (made, initialized, called) refl
-
--- Calls of the maker and the initialisation -------------------------------------------------
-
-none_once : (items : List Item) (d : Item) → NoMain items → once_in_main (items ++ d ∷ []) ≡ once_in_main (d ∷ [])
-none_once [] d h = refl
-none_once (declared t n ps ∷ is) d h = none_once is d h.1
-none_once (defined g ∷ is) d h = ap (λ b. if b then once_in g.code else once_in_main (is ++ d ∷ [])) h.0 ∙ none_once is d h.1
-
-abbrev called_in_main : Name → List Name
-called_in_main m = maker_name m ∷ initializer_name m ∷ []
-
-main_once : (m name : Name) → is_called_once (maker_name m) ≡ true → is_called_once (initializer_name m) ≡ true → once_in_main (main_item m (function_name m name) ∷ []) ≡ called_in_main m
-main_once m name made initialized = rw (made, initialized, function_not_once m name) refl
-
-once_distinct : (m : Name) → are_distinct (called_in_main m) ≡ true
-once_distinct m = rw (maker_not_initializer m) refl
-
--- a name is no maker's or initialisation's, or is called
-abbrev is_met : List Name → Name → Bool
-is_met called name = not (is_called_once name) || list_any (is_same name) called
-
-meets : (called : List Name) (n : Name) (ns : List Name) → is_met called n ≡ true → all_called called ns ≡ true → all_called called (n ∷ ns) ≡ true
-meets called n ns here others = and_from (is_met called n) (all_called called ns) here others
-
-or_true : (b : Bool) → (b || true) ≡ true
-or_true true = refl
-or_true false = refl
-
-function_met : (called m name : Name) (all : List Name) → called ≡ function_name m name → is_met all called ≡ true
-function_met n m name all e = ap (is_met all) e ∙ ap (λ b. not b || list_any (is_same (function_name m name)) all) (function_not_once m name)
-
-maker_met : (n m : Name) → n ≡ maker_name m → is_met (called_in_main m) n ≡ true
-maker_met n m e =
-    ap (is_met (called_in_main m)) e
-    ∙ ap (λ b. not (is_called_once (maker_name m)) || (b || list_any (is_same (maker_name m)) (initializer_name m ∷ []))) (is_itself (maker_name m))
-    ∙ or_true (not (is_called_once (maker_name m)))
-
-initializer_met : (n m : Name) → n ≡ initializer_name m → is_met (called_in_main m) n ≡ true
-initializer_met n m e =
-    ap (is_met (called_in_main m)) e
-    ∙ ap (λ b. not (is_called_once (initializer_name m)) || (is_same (initializer_name m) (maker_name m) || (b || false))) (is_itself (initializer_name m))
-    ∙ ap (λ b. not (is_called_once (initializer_name m)) || b) (or_true (is_same (initializer_name m) (maker_name m)))
-    ∙ or_true (not (is_called_once (initializer_name m)))
-
-main_met : (all : List Name) → is_met all main_name ≡ true
-main_met all = refl
-
-declares_met : (m n : Name) (items : List Item) → DefineNothing items → all_called (called_in_main m) (defined_names (items ++ main_item m n ∷ [])) ≡ true
-declares_met m n [] tr = meets (called_in_main m) main_name [] (main_met (called_in_main m)) refl
-declares_met m n (declared t k ps ∷ is) tr = declares_met m n is tr
-declares_met m n (defined g ∷ is) tr = absurd tr
-
-initializer_called : (m : ModuleTree) (n : Name) (items : List Item) → TrInitializer m items → all_called (called_in_main m.name) (defined_names (items ++ main_item m.name n ∷ [])) ≡ true
-initializer_called m n [] tr = absurd tr
-initializer_called m n (declared t k ps ∷ is) tr = initializer_called m n is tr
-initializer_called m n (defined g ∷ is) tr = meets (called_in_main m.name) g.name (defined_names (is ++ main_item m.name n ∷ [])) (initializer_met g.name m.name tr.0.named) (declares_met m.name n is tr.1)
-
-each_called : (m : ModuleTree) (n : Name) (fs : List FunctionTree) (items : List Item) → TrFunctions m fs items → all_called (called_in_main m.name) (defined_names (items ++ main_item m.name n ∷ [])) ≡ true
-each_called m n fs [] tr = absurd tr
-each_called m n [] (declared t k ps ∷ is) tr = each_called m n [] is tr
-each_called m n (f ∷ fs) (declared t k ps ∷ is) tr = each_called m n (f ∷ fs) is tr
-each_called m n (f ∷ fs) (defined g ∷ is) tr = meets (called_in_main m.name) g.name (defined_names (is ++ main_item m.name n ∷ [])) (function_met g.name m.name f.name (called_in_main m.name) tr.0.name) (each_called m n fs is tr.1)
-each_called m n [] (defined g ∷ is) tr = meets (called_in_main m.name) g.name (defined_names (is ++ main_item m.name n ∷ [])) (maker_met g.name m.name tr.0.named) (initializer_called m n is tr.1)
+  main_called : (is : IsProgram program) → is_defined items (c_name_of is.main) ≡ true → call_is (signature_named (callable Main names sigs) (c_name_of is.main)) ≡ true
+  main_called is here = let h = called (c_name_of is.main) here in ap call_is h.at ∙ go h.s h.named h.right_one
+    where
+      go : (s : Signature) → s.name ≡ c_name_of is.main → Right program s → call_is (Some s) ≡ true
+      go s e (inr k) = absurd (never_once s.name is.main.module_name is.main.name e k.once)
+      go s e (inl k) =
+          let same = same_procedure program is.formed k.callee is.main k.procedure is.function k.at is.is (sym k.named ∙ e) in
+          word_function s k.gives (k.takes ∙ ap (λ q. replicate (length q.function.params) Obj) same ∙ ap (λ xs. replicate (length xs) Obj) is.one.1)
 
 -- The linked program ------------------------------------------------------------------------
 
--- without uses, nothing that is called is defined elsewhere
-pub sound_alone : (m : ModuleTree) (items : List Item) → m.uses ≡ [] → is_sound_with (outside_of m) items ≡ true → is_sound items ≡ true
-unfolding is_sound_with is_sound
-sound_alone m items no_uses sound = sym (ap (λ us. is_sound_with (map c_name_of (used_callees us)) items) no_uses) ∙ sound
+module _ (program : List ModuleTree) (parts : List Part) (is_program : IsProgram program) (units : AreTranslated program parts) where
+  abbrev ms : List Name
+  ms = module_names program
 
--- a function without parameters that is in the unit may be called from `main`
-lone_call : (items : List Item) (n : Name) → items_fit (defined_names items) [] items ≡ true → Empty_found (functions_of items) n → may_call Main (role_of n) ≡ true → alone_is (signature_named (callable Main (defined_names items ++ main_name ∷ []) (after items [])) n) ≡ true
-lone_call items n fit h may =
-    let before = defined_names items in
-    let there : list_any (is_same n) (before ++ main_name ∷ []) ≡ true = any_longer n before (main_name ∷ []) (is_defined items n h.g h.at) in
-    let signature : Typed (after items []) n Obj [] = typed items before [] n h.g Obj [] fit h.at h.empty.result (ap (map (λ v. v.ty)) h.empty.params) in
-    ap alone_is (callable_found (before ++ main_name ∷ []) (after items []) n may there ∙ signature.at) ∙ lone_function signature.s signature.params_are
+  abbrev items : List Item
+  items = items_of parts
 
-pub joined_checked : (m : ModuleTree) (name : Name) (items : List Item) → NoMain items → NamedItems items → TrFunctions m m.functions items → Empty_found (functions_of items) (maker_name m.name) → Empty_found (functions_of items) (initializer_name m.name) → is_sound items ≡ true → (f : FunctionTree) (g : Fun) → fun_named (functions_of items) (function_name m.name name) ≡ Some g → TrFunction m f g → (x : VarId) → f.params ≡ x ∷ [] → is_checked (joined m.name name items) ≡ true
-unfolding is_checked is_sound joined
-joined_checked m name items none named tr made initialized sound f g at translated x one =
-    let n = function_name m.name name in
-    let d = main_item m.name n in
-    let sigs = after items [] in
-    let before = defined_names items in
-    let names = before ++ main_name ∷ [] in
-    let all = items ++ d ∷ [] in
-    let are : defined_names all ≡ names = defined_end items d in
-    let parts = and_parts (are_distinct before) (items_fit before [] items) sound in
-    let distinct : are_distinct names ≡ true = distinct_end before parts.0 (none_is_main items none) in
-    let there : list_any (is_same n) names ≡ true = any_longer n before (main_name ∷ []) (is_defined items n g at) in
-    let result = translated.params ∙ ap (map (λ _. Obj)) one in
-    let signature : Typed sigs n Obj (Obj ∷ []) = typed items before [] n g Obj (Obj ∷ []) parts.1 at translated.result result in
-    let called : call_is (signature_named (callable Main names sigs) n) ≡ true =
-    ap call_is (callable_found names sigs n (ap (may_call Main) (function_role m.name name)) there ∙ signature.at) ∙ word_function signature.s signature.result_is signature.params_are in
-    let is_made = maker_is m.name (named_function items (maker_name m.name) made.g made.at named) in
-    let is_initialized = initializer_is m.name (named_function items (initializer_name m.name) initialized.g initialized.at named) in
-    let makes = lone_call items (maker_name m.name) parts.1 made (ap (may_call Main) (maker_role m.name is_made)) in
-    let initializes = lone_call items (initializer_name m.name) parts.1 initialized (ap (may_call Main) (initializer_role m.name is_initialized)) in
-    let last : (agrees sigs (signature_of d) && item_fits names sigs d) ≡ true = and_from (agrees sigs (signature_of d)) (item_fits names sigs d) (agrees_on items none [] (signature_of d) refl refl) (main_fits names sigs m.name n makes initializes called) in
-    let fit : items_fit names [] all ≡ true = fit_end items before [] d parts.1 last in
-    let sound_all : (are_distinct (defined_names all) && items_fit (defined_names all) [] all) ≡ true =
-    and_from (are_distinct (defined_names all)) (items_fit (defined_names all) [] all) (ap are_distinct are ∙ distinct) (ap (λ ns. items_fit ns [] all) are ∙ fit) in
-    let once : once_in_main all ≡ called_in_main m.name = none_once items d none ∙ main_once m.name name (maker_once m.name is_made) (initializer_once m.name is_initialized) in
-    let each : calls_each_once all ≡ true =
-    and_from (are_distinct (once_in_main all)) (all_called (once_in_main all) (defined_names all)) (ap are_distinct once ∙ once_distinct m.name) (ap (λ c. all_called c (defined_names all)) once ∙ each_called m n m.functions items tr) in
-    and_from (are_distinct (defined_names all) && items_fit (defined_names all) [] all) (list_any is_main (defined_names all) && calls_each_once all) sound_all
-    (and_from (list_any is_main (defined_names all)) (calls_each_once all) (ap (list_any is_main) are ∙ main_is_there before) each)
+  abbrev main_item : Item
+  main_item = main_function ms (c_name_of is_program.main)
 
-main_named : (m n : Name) → IsTrue (is_function_name (maker_name m)) → IsTrue (is_function_name (initializer_name m)) → IsTrue (is_function_name n) → NamedItem (main_item m n)
-unfolding is_function_name is_local_name
-main_named m n made initialized named = (refl, tt, (refl, (refl, tt)), ((made, tt), ((initialized, tt), (refl, (tt, tt), (refl, (named, (refl, tt)), ((tt, (refl, tt)), tt))))))
+  abbrev all : List Item
+  all = linked program parts is_program.main
 
-named_end : (items : List Item) (d : Item) → NamedItems items → NamedItem d → NamedItems (items ++ d ∷ [])
-named_end [] d named here = (here, tt)
-named_end (i ∷ is) d named here = (named.0, named_end is d named.1 here)
+  abbrev names : List Name
+  names = defined_names items ++ main_name ∷ []
 
-pub joined_named : (m name : Name) (items : List Item) → NamedItems items → IsTrue (is_function_name (maker_name m)) → IsTrue (is_function_name (initializer_name m)) → IsTrue (is_function_name (function_name m name)) → NamedItems (joined m name items)
-unfolding joined
-joined_named m name items named made initialized found = named_end items (main_item m (function_name m name)) named (main_named m (function_name m name) made initialized found)
+  are : defined_names all ≡ names
+  are = defined_both items (main_item ∷ [])
+
+  among : (n : Name) → is_defined items n ≡ true → list_any (is_same n) names ≡ true
+  among n e = ap (list_any (is_same n)) (sym are) ∙ defined_first items (main_item ∷ []) n e
+
+  defines : (c : Callee) (q : Procedure) → procedure_of program (Some c) ≡ Some q → list_any (is_same (c_name_of c)) names ≡ true
+  defines c q at = among (c_name_of c) (callee_defined program parts units c q at)
+
+  right : ItemsRight program items
+  right = units_right program is_program names defines program parts (λ m h. h) units
+
+  makes : (n : Name) → Has ms n → alone_is (signature_named (callable Main names (after items [])) (maker_name n)) ≡ true
+  makes =
+      each_name (λ n. alone_is (signature_named (callable Main names (after items [])) (maker_name n)) ≡ true) program
+      (λ m h. once_called program items right names among (maker_name m.name) (makers_defined program parts units m h) (maker_is_once m.name (formed_at program m h is_program.formed).name))
+
+  initializes : (n : Name) → Has ms n → alone_is (signature_named (callable Main names (after items [])) (initializer_name n)) ≡ true
+  initializes =
+      each_name (λ n. alone_is (signature_named (callable Main names (after items [])) (initializer_name n)) ≡ true) program
+      (λ m h. once_called program items right names among (initializer_name m.name) (initializers_defined program parts units m h) (initializer_is_once m.name (formed_at program m h is_program.formed).name))
+
+  fit : items_fit names [] all ≡ true
+  fit =
+      let sigs = after items [] in
+      let new = signature_of main_item in
+      let calls = main_called program items right names among is_program (callee_defined program parts units is_program.main is_program.function is_program.is) in
+      let here : (agrees sigs new && item_fits names sigs main_item) ≡ true =
+      and_from (agrees sigs new) (item_fits names sigs main_item) (main_agrees program sigs new (after_right program items [] right tt) refl) (main_fits names sigs ms (c_name_of is_program.main) makes initializes calls) in
+      fit_both names items (main_item ∷ []) [] (units_fit program is_program names defines program parts [] (λ m h. h) units tt among)
+      (and_from (agrees sigs new && item_fits names sigs main_item) true here refl)
+
+  sound : is_sound all ≡ true
+  unfolding is_sound
+  sound =
+      let distinct : are_distinct names ≡ true = distinct_both (defined_names items) (main_name ∷ []) (distinct_definitions program parts is_program units) refl (apart_from_main (defined_names items) (none_is_main program items right)) in
+      and_from (are_distinct (defined_names all)) (items_fit (defined_names all) [] all) (ap are_distinct are ∙ distinct) (ap (λ ns. items_fit ns [] all) are ∙ fit)
+
+  main_there : list_any is_main (defined_names all) ≡ true
+  main_there = ap (list_any is_main) are ∙ list_any-append is_main (defined_names items) (main_name ∷ []) ∙ or_later (list_any is_main (defined_names items)) true refl
+
+  each_once : calls_each_once all ≡ true
+  each_once =
+      let named = are_names program is_program.formed in
+      let once : once_in_main all ≡ called_in_main ms = none_once program items main_item right ∙ main_once ms (c_name_of is_program.main) named (function_not_once is_program.main.module_name is_program.main.name) in
+      let met : all_called (called_in_main ms) names ≡ true =
+      list_all-append (is_met (called_in_main ms)) (defined_names items) (main_name ∷ [])
+      ∙ and_from (all_called (called_in_main ms) (defined_names items)) true (units_met ms program parts (has_name program) is_program.formed units) refl in
+      and_from (are_distinct (once_in_main all)) (all_called (once_in_main all) (defined_names all)) (ap are_distinct once ∙ once_distinct ms named is_program.distinct) (ap (λ c. all_called c (defined_names all)) once ∙ ap (all_called (called_in_main ms)) are ∙ met)
+
+pub joined_checked : (program : List ModuleTree) (parts : List Part) (is : IsProgram program) → AreTranslated program parts → is_checked (joined parts is.main) ≡ true
+unfolding is_checked
+joined_checked program parts is units =
+    let all = linked program parts is.main in
+    ap is_checked (joined_is program parts is.main units)
+    ∙ and_from (is_sound all) (list_any is_main (defined_names all) && calls_each_once all) (sound program parts is units)
+    (and_from (list_any is_main (defined_names all)) (calls_each_once all) (main_there program parts is units) (each_once program parts is units))

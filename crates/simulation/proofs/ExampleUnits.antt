@@ -1,13 +1,16 @@
 -- Small modules and units, and what examples of translations share.
-use Rattle.std.proofs.Common.{◌≡◌, ℕ, List, [], ◌∷◌, ◌++◌, Bool, true, false, Some, refl, sym, ap, ◌∙◌, inl, inr}
-use Rattle.std.specs.Prelude.{codes, pos, replicate, slice_get, if◌then◌else◌}
+use Rattle.std.proofs.Common.{◌≡◌, ℕ, List, [], ◌∷◌, ◌++◌, Bool, true, false, Some, refl, sym, ap, ◌∙◌, subst, inl, inr, arith}
+use Rattle.std.specs.Prelude.{codes, pos, map, replicate, slice_get, if◌then◌else◌, IsTrue}
 use Rattle.std.proofs.lemmas.Option.{slice_get_within, get_or_from_slice_get}
 use Rattle.prim_table.specs.declared.primitives.Ty.TheVariants as ty
 use Rattle.prim_table.specs.declared.primitives.Primitive.TheVariants.{Add, Less, Display, Newline}
 use Rattle.core_tree.specs.declared.tree.Const.TheVariants.{Int, Bool as Truth}
 use Rattle.core_tree.specs.declared.tree.GlobalRef.TheVariants.{Own}
 use Rattle.core_tree.specs.declared.tree.VarId.{VarId}
-use Rattle.core_tree.specs.Tree.{Tree, Constant, Variable, Sequence, Call, Primitive, Trees, none, more, FunctionTree, ModuleTree, Callee}
+use Rattle.core_tree.specs.Tree.{Tree, Constant, Variable, Sequence, Call, Primitive, Trees, none, more, FunctionTree, ModuleTree, Callee, function_named}
+use Rattle.core_tree.specs.WellFormed.{are_distinct, takes_as_many, AreFunctions}
+use Rattle.meaning.specs.Procedures.{found_in}
+use Rattle.meaning.specs.Program.{IsProgram}
 use Rattle.c_tree.specs.declared.op.Op.{Op}
 use Rattle.c_tree.specs.declared.op.Op.TheVariants.{BoxLong, BoxBool, Primitive as Does}
 use Rattle.c_tree.specs.declared.tree.CTy.{CTy}
@@ -23,8 +26,9 @@ use Rattle.c_tree.specs.Names.{function_name, maker_name, initializer_name}
 use Rattle.c_tree.specs.Spelling.{NamedItems}
 use Rattle.c_meaning.specs.Execution.{is_same}
 use Rattle.plan_rules.specs.declared.rep.Rep.TheVariants as rep
+use Rattle.plan_rules.specs.Joined.{Part, joined}
 use Rattle.plan_rules.specs.Representation.{PlainAt, operation, call_of, local}
-use Rattle.plan_rules.specs.Translation.{Name, Fresh, back, AllFit, Tr, TrFunction, IsEmpty, TrFunctions, c_name_of, IsDeclared, is_sound_with, Translated}
+use Rattle.plan_rules.specs.Translation.{Name, Fresh, back, AllFit, Tr, TrAllUnused, TrFunction, TrFunctions, c_name_of, IsDeclared, is_sound_with, Translated}
 use Rattle.simulation.proofs.Names.{same_test}
 
 -- Side conditions ---------------------------------------------------------------------------
@@ -62,6 +66,12 @@ shown t = Primitive Display (more t none)
 abbrev pub line_end : Tree
 line_end = Primitive Newline none
 
+abbrev pub f_name : Name
+f_name = codes "f"
+
+abbrev pub go_name : Name
+go_name = codes "go"
+
 abbrev pub x0 : Name
 x0 = codes "x0"
 
@@ -79,6 +89,12 @@ x4 = codes "x4"
 
 abbrev pub x5 : Name
 x5 = codes "x5"
+
+abbrev pub x6 : Name
+x6 = codes "x6"
+
+abbrev pub x7 : Name
+x7 = codes "x7"
 
 abbrev pub number : ℕ → CArg
 number n = arg.Atom (atom.Int (pos n))
@@ -110,6 +126,10 @@ a_word n = calls BoxLong (number n ∷ [])
 abbrev pub variable : ℕ → Tree
 variable n = Variable (record { 0 = n })
 
+-- a body of one expression
+abbrev pub only : Tree → Tree
+only t = Sequence (more t none)
+
 -- the module's calls are of its first function
 abbrev pub call_first : Trees → Tree
 call_first ts = Call (Own 0) ts
@@ -117,8 +137,11 @@ call_first ts = Call (Own 0) ts
 abbrev pub a_local : Name → CExpr
 a_local x = expr.Atom (atom.Name x)
 
+abbrev pub calls_in : Name → Name → List CArg → CExpr
+calls_in module_name name args = expr.Call (call_of (function_name module_name name) args)
+
 abbrev pub calls_function : Name → List CArg → CExpr
-calls_function name args = expr.Call (call_of (function_name (codes "hello") name) args)
+calls_function name args = calls_in (codes "hello") name args
 
 -- `(define (NAME PARAMS) BODY)`
 abbrev pub function : Name → List VarId → Tree → FunctionTree
@@ -126,7 +149,7 @@ function name params body = record { name = name; params = params; body = body }
 
 -- `(module hello (main go)) (define (go args) BODY)`, below other functions
 abbrev pub below : List FunctionTree → Tree → ModuleTree
-below others body = record { name = codes "hello"; imports = []; uses = []; exports = []; functions = others ++ function (codes "go") (record { 0 = 0 } ∷ []) body ∷ []; main = Some (codes "go") }
+below others body = record { name = codes "hello"; imports = []; uses = []; exports = []; forms = none; functions = others ++ function go_name (record { 0 = 0 } ∷ []) body ∷ []; main = Some go_name }
 
 abbrev pub hello : Tree → ModuleTree
 hello body = below [] body
@@ -139,16 +162,35 @@ definition module_name name locals code = record { result = Obj; name = function
 abbrev pub one_word : Name → List CVar → Code → Fun
 one_word name locals code = definition (codes "hello") name locals code
 
--- `obj NAME(void) { return BGL_UNSPEC; }`
-abbrev pub empty : Name → Fun
-empty name = record { result = Obj; name = name; params = []; locals = []; code = return (expr.Atom atom.Unspec) done }
+-- `return BGL_UNSPEC;`
+abbrev pub unspecified : Code
+unspecified = return (expr.Atom atom.Unspec) done
 
--- the maker and the initialisation of a module
+-- `obj NAME(void) { LOCALS CODE }`
+abbrev pub straight : Name → List CVar → Code → Fun
+straight name locals code = record { result = Obj; name = name; params = []; locals = locals; code = code }
+
+-- the maker of a module, and its initialisation with these locals and statements
+abbrev pub last_items : Name → List CVar → Code → List Item
+last_items m locals code = defined (straight (maker_name m) [] unspecified) ∷ defined (straight (initializer_name m) locals code) ∷ []
+
+-- those of a module without forms
 abbrev pub empties : Name → List Item
-empties m = defined (empty (maker_name m)) ∷ defined (empty (initializer_name m)) ∷ []
+empties m = last_items m [] unspecified
 
 abbrev pub unit : List CVar → Code → List Item
-unit locals code = defined (one_word (codes "go") locals code) ∷ empties (codes "hello")
+unit locals code = defined (one_word go_name locals code) ∷ empties (codes "hello")
+
+abbrev pub part : Name → List Item → Part
+part m items = record { module_name = m; items = items }
+
+-- the main function of a module
+abbrev pub go_of : Name → Callee
+go_of m = record { module_name = m; name = go_name; params = 1 }
+
+-- a unit of `hello` alone
+abbrev pub linked : List Item → List Item
+linked items = joined (part (codes "hello") items ∷ []) (go_of (codes "hello"))
 
 -- the body of a function of one parameter
 abbrev pub Body : ModuleTree → List CVar → Tree → Code → Type 0
@@ -157,15 +199,39 @@ Body m locals body code = Tr m ((record { 0 = 0 }, PlainAt rep.Obj x0) ∷ []) (
 pub function_so : (m : ModuleTree) (name : Name) (locals : List CVar) (body : Tree) (code : Code) → Body m locals body code → TrFunction m (function name (record { 0 = 0 } ∷ []) body) (definition m.name name locals code)
 function_so m name locals body code translated = record { name = refl; result = refl; params = refl; label = _; body = code; looped = refl; translated = translated }
 
-empty_so : (name : Name) → IsEmpty name (empty name)
-empty_so name = record { named = refl; result = refl; params = refl; locals = refl; code = refl }
+-- the forms of a module
+abbrev pub Forms : ModuleTree → List CVar → Code → Type 0
+Forms m locals code = TrAllUnused m [] locals m.forms [] code unspecified
 
-pub empties_so : (m : ModuleTree) → TrFunctions m [] (empties m.name)
-empties_so m = (empty_so (maker_name m.name), (empty_so (initializer_name m.name), tt))
+pub forms_so : (m : ModuleTree) (locals : List CVar) (code : Code) → Forms m locals code → TrFunctions m [] (last_items m.name locals code)
+forms_so m locals code translated = (record { named = refl; result = refl; params = refl; locals = refl; code = refl }, (record { named = refl; result = refl; params = refl; translated = translated }, tt))
+
+pub empties_so : (m : ModuleTree) → m.forms ≡ none → TrFunctions m [] (empties m.name)
+unfolding TrAllUnused
+empties_so m e = forms_so m [] unspecified (subst (λ ts. TrAllUnused m [] [] ts [] unspecified unspecified) (sym e) refl)
 
 pub translated_so : (locals : List CVar) (body : Tree) (code : Code) → Body (hello body) locals body code → NamedItems (unit locals code) → is_sound_with [] (unit locals code) ≡ true → Translated (hello body) (unit locals code)
 translated_so locals body code translated named sound =
-    record { functions = (function_so (hello body) (codes "go") locals body code translated, empties_so (hello body)); declarations = tt; named = named; sound = sound }
+    record { functions = (function_so (hello body) go_name locals body code translated, empties_so (hello body) refl); declarations = tt; named = named; sound = sound }
+
+-- a module alone, of functions that are well formed
+abbrev pub alone_so : (others : List FunctionTree) (body : Tree) → AreFunctions (below others body) (below others body).functions → IsTrue (are_distinct (map (λ f. f.name) (below others body).functions))
+    → function_named (below others body).functions go_name ≡ Some (function go_name (record { 0 = 0 } ∷ []) body) → IsProgram (below others body ∷ [])
+alone_so others body functions distinct found =
+    let m = below others body in
+    record {
+      formed = (
+        record { name = record { some = omega arith; short = omega arith; bytes = refl }; imports = tt; functions = functions; forms = tt; distinct = distinct; uses = tt; once = refl; ordered = refl; rows = tt; exported = refl; main = ap (takes_as_many 1) found },
+        tt,
+      );
+      distinct = refl;
+      linked = refl;
+      main = go_of (codes "hello");
+      is_main = refl;
+      function = record { home = m; function = function go_name (record { 0 = 0 } ∷ []) body };
+      is = ap (found_in m) found;
+      one = (record { 0 = 0 }, refl);
+    }
 
 -- the declaration of a function that may be called
 pub declared_so : (cs : List Callee) (k : ℕ) (c : Callee) → slice_get cs k ≡ Some c → IsDeclared cs Obj (c_name_of c) (replicate c.params Obj)

@@ -8,15 +8,15 @@ use Rattle.core_tree.specs.Tree.{Tree, Sequence, none, more}
 use Rattle.c_tree.specs.declared.op.Op.TheVariants.{UnboxLong, Primitive as Does}
 use Rattle.c_tree.specs.declared.tree.CTy.TheVariants.{Obj, Long}
 use Rattle.c_tree.specs.declared.tree.CVar.{CVar}
-use Rattle.c_tree.specs.Code.{Code, done, assign, call, return, Item}
+use Rattle.c_tree.specs.Code.{Code, done, assign, call, return}
 use Rattle.c_tree.specs.Names.{function_name, maker_name, initializer_name, is_function_name, is_local_name, is_label_name}
 use Rattle.c_meaning.specs.Program.{cm}
 use Rattle.plan_rules.specs.Joined.{joined}
 use Rattle.plan_rules.specs.Representation.{operation, local}
 use Rattle.plan_rules.specs.Translation.{Tr, TrUnused, TrAllUnused, TrLast, TrArguments, is_sound_with, Translated}
 use Rattle.simulation.specs.Law.{KeepsMeaning, IsFaithful}
-use Rattle.simulation.proofs.ExampleUnits.{fresh, int, sum_of, shown, line_end, variable, x0, x1, x2, x3, x4, x5, calls, var, plus, boxed, a_number, a_word, a_local, hello, unit, translated_so, kept_one, kept_two}
-use Rattle.simulation.proofs.Main.{keeps_meaning}
+use Rattle.simulation.proofs.ExampleUnits.{fresh, int, sum_of, shown, line_end, x0, x1, x2, x3, x4, x5, calls, var, plus, boxed, a_number, a_word, variable, a_local, hello, unit, part, go_of, linked, translated_so, alone_so, kept_one, kept_two}
+use Rattle.simulation.proofs.Faithful.{keeps_meaning}
 
 -- Nodes -------------------------------------------------------------------------------------
 
@@ -283,22 +283,19 @@ parameter_unused = translated_so [] (Sequence (more (variable 0) (more (int 0) n
 
 -- Linked programs ---------------------------------------------------------------------------
 
-abbrev linked : List CVar → Code → List Item
-linked locals code = joined (codes "hello") (codes "go") (unit locals code)
-
-display_prints : cm (linked boxed_locals boxed_code) [] [] 1 ≡ record { output = codes "3"; end = Ended 0 }
+display_prints : cm (linked (unit boxed_locals boxed_code)) [] [] 1 ≡ record { output = codes "3"; end = Ended 0 }
 unfolding cm joined decimal_text function_name maker_name initializer_name
 display_prints = refl
 
-sum_is_the_status : cm (linked sum_locals sum_code) [] [] 1 ≡ record { output = []; end = Ended 42 }
+sum_is_the_status : cm (linked (unit sum_locals sum_code)) [] [] 1 ≡ record { output = []; end = Ended 42 }
 unfolding cm joined decimal_text function_name maker_name initializer_name
 sum_is_the_status = refl
 
-no_long : cm (linked unboxed_locals unboxed_code) [] [] 1 ≡ record { output = codes "1"; end = Raised 1 (codes "long") }
+no_long : cm (linked (unit unboxed_locals unboxed_code)) [] [] 1 ≡ record { output = codes "1"; end = Raised 1 (codes "long") }
 unfolding cm joined decimal_text function_name maker_name initializer_name
 no_long = refl
 
 -- and the law says so of the module
-faithful : IsFaithful (hello parts) (codes "go") (unit (var Obj x1 ∷ []) parts_code)
+faithful : IsFaithful (hello parts ∷ []) (part (codes "hello") (unit (var Obj x1 ∷ []) parts_code) ∷ []) (go_of (codes "hello"))
 unfolding KeepsMeaning
-faithful = keeps_meaning (hello parts) (codes "go") (unit (var Obj x1 ∷ []) parts_code) refl (record { no_imports = refl; no_uses = refl; function = _; is = refl; one = (record { 0 = 0 }, refl) }) unused_parts
+faithful = keeps_meaning (hello parts ∷ []) (part (codes "hello") (unit (var Obj x1 ∷ []) parts_code) ∷ []) (alone_so [] parts (record { name = search rules; body = search rules }, tt) refl refl) (refl, unused_parts, tt)

@@ -8,34 +8,25 @@ use Rattle.core_tree.specs.declared.tree.Use.TheVariants.{From, Need}
 use Rattle.core_tree.specs.Tree.{Tree, Sequence, Call, Trees, none, more, FunctionTree, ModuleTree, Callee, row_callee, callee_of}
 use Rattle.c_tree.specs.declared.tree.CTy.{CTy}
 use Rattle.c_tree.specs.declared.tree.CTy.TheVariants.{Obj}
-use Rattle.c_tree.specs.declared.tree.CArg.{CArg}
-use Rattle.c_tree.specs.declared.tree.CExpr.{CExpr}
-use Rattle.c_tree.specs.declared.tree.CExpr.TheVariants as expr
 use Rattle.c_tree.specs.declared.tree.CVar.{CVar}
 use Rattle.c_tree.specs.Code.{Code, done, assign, call, return, Item, declared, defined}
 use Rattle.c_tree.specs.Names.{function_name, maker_name, initializer_name, is_function_name, is_local_name, is_label_name}
 use Rattle.c_meaning.specs.Checked.{is_sound}
-use Rattle.plan_rules.specs.Representation.{raise_count, call_of, local}
+use Rattle.plan_rules.specs.Representation.{raise_count, local}
 use Rattle.plan_rules.specs.Translation.{Name, Tr, TrUnused, TrAllUnused, TrLast, TrArguments, callees, c_name_of, IsDeclared, outside_of, is_sound_with, Translated}
 use Rattle.simulation.proofs.Names.{same_test}
-use Rattle.simulation.proofs.ExampleUnits.{fresh, int, variable, call_first, x0, x1, x2, var, a_word, a_local, function, definition, empties, function_so, empties_so, declared_so, kept_one}
+use Rattle.simulation.proofs.ExampleUnits.{fresh, int, f_name, go_name, x0, x1, x2, var, a_word, variable, call_first, a_local, calls_in, function, definition, empties, function_so, empties_so, declared_so, kept_one}
 
 -- Modules and units -------------------------------------------------------------------------
 
-abbrev a_name : Name
+abbrev pub a_name : Name
 a_name = codes "a"
 
-abbrev b_name : Name
+abbrev pub b_name : Name
 b_name = codes "b"
-
-abbrev f_name : Name
-f_name = codes "f"
 
 abbrev g_name : Name
 g_name = codes "g"
-
-abbrev go_name : Name
-go_name = codes "go"
 
 -- `(module b (import (NAME ... a)) (main go)) (define (go args) BODY)`, below other functions
 abbrev importing : List Name → List Use → List FunctionTree → Tree → ModuleTree
@@ -43,6 +34,7 @@ importing names uses others body =
     record {
       name = b_name;
       imports = record { module_name = a_name; names = names } ∷ [];
+      forms = none;
       functions = others ++ function go_name (record { 0 = 0 } ∷ []) body ∷ [];
       uses = uses;
       exports = [];
@@ -50,25 +42,22 @@ importing names uses others body =
     }
 
 -- `f` of `a`, of one parameter, is called
-abbrev called_f : Use
+abbrev pub called_f : Use
 called_f = From a_name (untyped_row f_name 1)
 
 -- `g` of `a`, of two parameters, is not called
 abbrev needed_g : Use
 needed_g = Need a_name (untyped_row g_name 2)
 
-abbrev f_callee : Callee
+abbrev pub f_callee : Callee
 f_callee = row_callee a_name (untyped_row f_name 1)
 
-abbrev used_f : Trees → Tree
+abbrev pub used_f : Trees → Tree
 used_f ts = Call (Used 0) ts
 
 -- `extern obj f_a__f(obj);`
-abbrev f_declared : Item
+abbrev pub f_declared : Item
 f_declared = declared Obj (function_name a_name f_name) (Obj ∷ [])
-
-abbrev calls_in : Name → Name → List CArg → CExpr
-calls_in module_name name args = expr.Call (call_of (function_name module_name name) args)
 
 abbrev go_unit : List CVar → Code → List Item
 go_unit locals code = defined (definition b_name go_name locals code) ∷ empties b_name
@@ -102,7 +91,7 @@ import_called =
             fit = kept_one _ x1 (x1 ∷ x0 ∷ []) _;
           },
         ),
-        empties_so calling_f,
+        empties_so calling_f refl,
       );
       declarations = (declared_so (callees calling_f) 1 f_callee refl, tt);
       named = search rules;
@@ -172,7 +161,7 @@ both_called =
               fit = kept_one _ x2 (x2 ∷ x0 ∷ []) _;
             },
           ),
-          empties_so mixed,
+          empties_so mixed refl,
         ),
       );
       declarations = (declared_so (callees mixed) 2 f_callee refl, tt);
@@ -193,7 +182,7 @@ import_miscalled =
     record {
       functions = (
         function_so miscalling go_name [] (Sequence (more (used_f none) (more (int 0) none))) miscalling_code (record { middle = _; one = record { temporaries = []; middle = _; is = refl; values = (refl, refl) }; all = refl }),
-        empties_so miscalling,
+        empties_so miscalling refl,
       );
       declarations = (declared_so (callees miscalling) 1 f_callee refl, tt);
       named = search rules;
@@ -207,7 +196,7 @@ needing = importing (g_name ∷ []) (needed_g ∷ []) [] (int 7)
 
 import_needed : Translated needing (go_unit [] (return (a_word 7) done))
 unfolding Tr TrUnused TrAllUnused TrLast TrArguments is_sound_with function_name maker_name initializer_name is_function_name is_local_name is_label_name
-import_needed = record { functions = (function_so needing go_name [] (int 7) _ refl, empties_so needing); declarations = tt; named = search rules; sound = refl }
+import_needed = record { functions = (function_so needing go_name [] (int 7) _ refl, empties_so needing refl); declarations = tt; named = search rules; sound = refl }
 
 needed_is_not_callable : callee_of needing (Used 0) ≡ None
 needed_is_not_callable = refl

@@ -2,7 +2,7 @@
 use Rattle.std.proofs.Common.{◌≡◌, ℕ, List, [], ◌∷◌, refl, sym, ap, ◌∙◌, subst, inr}
 use Rattle.prim_table.specs.declared.primitives.Ty.{Ty}
 use Rattle.prim_table.specs.Table.{params_of, result_of}
-use Rattle.core_tree.specs.Tree.{Tree, Constant, Variable, If, Sequence, Call, Primitive, Trees, none, more, FunctionTree, ModuleTree}
+use Rattle.core_tree.specs.Tree.{Tree, Constant, Variable, If, Sequence, Call, Primitive, Trees, none, more, ModuleTree}
 use Rattle.meaning.specs.Value.{Value, Unspecified, State, Outcome, bind}
 use Rattle.meaning.specs.Value as src
 use Rattle.meaning.specs.Primitives.{primitive}
@@ -29,7 +29,7 @@ use Rattle.simulation.proofs.Scopes.{Ready, ready_on}
 use Rattle.simulation.proofs.Variables.{constant_ends, boxed_answers, variable_ends, variable_unused}
 use Rattle.simulation.proofs.Arguments.{from, at_place, nowhere, primitive_work, Evaluated, applied, evaluated_first}
 use Rattle.simulation.proofs.Branches.{BlockDoes, branches_end}
-use Rattle.simulation.proofs.Callees.{CallsDo, call_ends}
+use Rattle.simulation.proofs.Callees.{CallsDo, Linked, call_ends}
 
 bind_gives : {A : Type 0} (o : Outcome A) → bind o (λ a s. src.Gives a s) ≡ o
 bind_gives (src.Gives a s) = refl
@@ -38,8 +38,8 @@ bind_gives (src.Raises code text s) = refl
 bind_gives (src.Spends s) = refl
 
 -- a sequence of one part is that part
-pub one_part : (functions : List FunctionTree) (lo : Lower) (t : Tree) (v : Value) (env : Environment) (s : State) → ev_last functions lo (more t none) v env s ≡ ev functions lo t env s
-one_part functions lo t v env s = bind_gives (ev functions lo t env s)
+pub one_part : (program : List ModuleTree) (m : ModuleTree) (lo : Lower) (t : Tree) (v : Value) (env : Environment) (s : State) → ev_last program m lo (more t none) v env s ≡ ev program m lo t env s
+one_part program m lo t v env s = bind_gives (ev program m lo t env s)
 
 module _ (vars : List CVar) (p : List Fun) (lower : CLower) where
   abbrev runs : Code → Frame → CState → Flow
@@ -82,84 +82,84 @@ module _ (vars : List CVar) (p : List Fun) (lower : CLower) where
       let d = from b.live r.g r.later s in
       onwards vars (good d) (good b) b d (k a s) flow _ r.is (λ x i. i) r.moved (λ a1 s1 x. on d refl r.moved a1 s1 _ x) (go r.g r.later s r.t a r.moved r.same))
 
-  module _ (m : ModuleTree) (no_uses : m.uses ≡ []) (scope : Scope) (lo : Lower) (limit : ℕ) (calls : CallsDo p lower m lo limit) where
+  module _ (program : List ModuleTree) (m : ModuleTree) (linked : Linked program m) (scope : Scope) (lo : Lower) (limit : ℕ) (calls : CallsDo p lower program lo limit) where
     -- a block that gives its value as a word
     abbrev AsWord : Tree → List Name → Place → Code → Type 0
     AsWord n live place code = Coerced vars (has_of scope n Obj) Obj (λ pl cd rs. Tr m scope vars n (has_of scope n Obj) live pl cd rs) live place code done
 
-    block_does : (n : Tree) (b : Base) (place : Place) (env : Environment) (t : CState) → Free vars b.live place → Ready vars scope env limit b t → ((d : Base) (t1 : CState) → Ready vars scope env limit d t1 → Gives (λ pl cd rs. Tr m scope vars n (has_of scope n Obj) d.live pl cd rs) (has_of scope n Obj) d (ev m.functions lo n env d.state) t1) → BlockDoes vars p lower (at_place place) Obj b (AsWord n b.live place) (λ s. ev m.functions lo n env s)
+    block_does : (n : Tree) (b : Base) (place : Place) (env : Environment) (t : CState) → Free vars b.live place → Ready vars scope env limit b t → ((d : Base) (t1 : CState) → Ready vars scope env limit d t1 → Gives (λ pl cd rs. Tr m scope vars n (has_of scope n Obj) d.live pl cd rs) (has_of scope n Obj) d (ev program m lo n env d.state) t1) → BlockDoes vars p lower (at_place place) Obj b (AsWord n b.live place) (λ s. ev program m lo n env s)
     block_does n b place env t free ready go f later s t1 code moved same block =
         let d = from b.live f later s in
-        coerced (has_of scope n Obj) Obj (λ pl cd rs. Tr m scope vars n (has_of scope n Obj) b.live pl cd rs) place done d code (ev m.functions lo n env s) t1 block free
+        coerced (has_of scope n Obj) Obj (λ pl cd rs. Tr m scope vars n (has_of scope n Obj) b.live pl cd rs) place done d code (ev program m lo n env s) t1 block free
         (go d t1 (ready_on vars scope env limit b d t t1 ready (λ x i. i) moved same))
 
     mutual
       unfolding Tr TrUnused TrAllUnused TrLast TrArguments
 
-      pub sim : (n : Tree) (h : Rep) (b : Base) (place : Place) (code rest : Code) (env : Environment) (t : CState) → Tr m scope vars n h b.live place code rest → Free vars b.live place → Ready vars scope env limit b t → At vars p lower place h rest b (ev m.functions lo n env b.state) (runs code b.frame t)
+      pub sim : (n : Tree) (h : Rep) (b : Base) (place : Place) (code rest : Code) (env : Environment) (t : CState) → Tr m scope vars n h b.live place code rest → Free vars b.live place → Ready vars scope env limit b t → At vars p lower place h rest b (ev program m lo n env b.state) (runs code b.frame t)
       sim (Constant k) h b place code rest env t is free ready = constant_ends vars p lower m scope env limit k h b place code rest t is free ready.same
       sim (Variable x) h b place code rest env t is free ready = variable_ends vars p lower m scope env limit x (slot_of x scope) refl h b place code rest t is free ready
       sim (If test one other) h b place code rest env t is free ready =
           let has = has_of scope test Truth_rep in
-          subst (λ z. At vars p lower place z rest b (ev m.functions lo (If test one other) env b.state) (runs code b.frame t)) (sym is.0)
-          (branches_end vars p lower (at_place place) Obj has rest (λ pl cd rs. Tr m scope vars test has b.live pl cd rs) (AsWord one b.live place) (AsWord other b.live place) b code (ev m.functions lo test env b.state) (λ s. ev m.functions lo one env s) (λ s. ev m.functions lo other env s) t is.1
+          subst (λ z. At vars p lower place z rest b (ev program m lo (If test one other) env b.state) (runs code b.frame t)) (sym is.0)
+          (branches_end vars p lower (at_place place) Obj has rest (λ pl cd rs. Tr m scope vars test has b.live pl cd rs) (AsWord one b.live place) (AsWord other b.live place) b code (ev program m lo test env b.state) (λ s. ev program m lo one env s) (λ s. ev program m lo other env s) t is.1
           (λ target. sim test has b (into is.1.temporary) code is.1.middle env t is.1.given target ready)
           (block_does one b place env t free ready (λ d t1 ready1 pl cd rs tr free1. sim one (has_of scope one Obj) d pl cd rs env t1 tr free1 ready1))
           (block_does other b place env t free ready (λ d t1 ready1 pl cd rs tr free1. sim other (has_of scope other Obj) d pl cd rs env t1 tr free1 ready1)))
       sim (Sequence ts) h b place code rest env t is free ready = sim_last ts h b place code rest Unspecified env t is free ready
       sim (Call g ns) h b place code rest env t is free ready =
-          subst (λ z. At vars p lower place z rest b (ev m.functions lo (Call g ns) env b.state) (runs code b.frame t)) (sym is.0)
-          (call_ends m no_uses scope vars p lower lo limit calls g (λ temporaries cd middle. TrArguments m scope vars (objects ns) ns b.live temporaries cd middle) ns (at_place place) rest code b (evs m.functions lo ns env b.state) t ready.turns free is.1
+          subst (λ z. At vars p lower place z rest b (ev program m lo (Call g ns) env b.state) (runs code b.frame t)) (sym is.0)
+          (call_ends program m linked scope vars p lower lo limit calls g (λ temporaries cd middle. TrArguments m scope vars (objects ns) ns b.live temporaries cd middle) ns (at_place place) rest code b (evs program m lo ns env b.state) t ready.turns free is.1
           (λ temporaries middle values. sim_arguments ns (objects ns) b temporaries code middle env t values ready))
       sim (Primitive q ns) h b place code rest env t is free ready =
           let r = rep_of (result_of q) in
           let hs = haves scope (params_of q) ns in
-          subst (λ z. At vars p lower place z rest b (ev m.functions lo (Primitive q ns) env b.state) (runs code b.frame t)) (sym is.0)
-          (applied vars p lower limit (params_of q) r (primitive_work vars p lower limit q) (at_place place) rest (λ vs s. primitive q vs s) (λ vs s. refl) (λ temporaries cd middle. TrArguments m scope vars (params_of q) ns b.live temporaries cd middle) hs b code (evs m.functions lo ns env b.state) (runs code b.frame t) ready.turns free is.1
+          subst (λ z. At vars p lower place z rest b (ev program m lo (Primitive q ns) env b.state) (runs code b.frame t)) (sym is.0)
+          (applied vars p lower limit (params_of q) r (primitive_work vars p lower limit q) (at_place place) rest (λ vs s. primitive q vs s) (λ vs s. refl) (λ temporaries cd middle. TrArguments m scope vars (params_of q) ns b.live temporaries cd middle) hs b code (evs program m lo ns env b.state) (runs code b.frame t) ready.turns free is.1
           (sim_arguments ns (params_of q) b is.1.temporaries code is.1.middle env t is.1.values ready))
 
-      sim_unused : (n : Tree) (b : Base) (code rest : Code) (env : Environment) (t : CState) → TrUnused m scope vars n b.live code rest → Ready vars scope env limit b t → Passed vars p lower rest b (ev m.functions lo n env b.state) (runs code b.frame t)
+      sim_unused : (n : Tree) (b : Base) (code rest : Code) (env : Environment) (t : CState) → TrUnused m scope vars n b.live code rest → Ready vars scope env limit b t → Passed vars p lower rest b (ev program m lo n env b.state) (runs code b.frame t)
       sim_unused (Constant k) b code rest env t is ready =
           record { later = b.world; g = b.frame; t = t; is = ap (λ x. runs x b.frame t) is; here = tt; moved = moved_same vars b; same = ready.same }
       sim_unused (Variable x) b code rest env t is ready = variable_unused vars p lower m scope env limit x (slot_of x scope) refl b code rest t is ready
       sim_unused (If test one other) b code rest env t is ready =
           let has = has_of scope test Truth_rep in
-          branches_end vars p lower nowhere Obj has rest (λ pl cd rs. Tr m scope vars test has b.live pl cd rs) (λ cd. TrUnused m scope vars one b.live cd done) (λ cd. TrUnused m scope vars other b.live cd done) b code (ev m.functions lo test env b.state) (λ s. ev m.functions lo one env s) (λ s. ev m.functions lo other env s) t is
+          branches_end vars p lower nowhere Obj has rest (λ pl cd rs. Tr m scope vars test has b.live pl cd rs) (λ cd. TrUnused m scope vars one b.live cd done) (λ cd. TrUnused m scope vars other b.live cd done) b code (ev program m lo test env b.state) (λ s. ev program m lo one env s) (λ s. ev program m lo other env s) t is
           (λ target. sim test has b (into is.temporary) code is.middle env t is.given target ready)
           (λ f later s t1 cd moved same block. sim_unused one (from b.live f later s) cd done env t1 block (ready_on vars scope env limit b (from b.live f later s) t t1 ready (λ x i. i) moved same))
           (λ f later s t1 cd moved same block. sim_unused other (from b.live f later s) cd done env t1 block (ready_on vars scope env limit b (from b.live f later s) t t1 ready (λ x i. i) moved same))
       sim_unused (Sequence ts) b code rest env t is ready = sim_all_unused ts b code rest Unspecified env t is ready
       sim_unused (Call g ns) b code rest env t is ready =
-          call_ends m no_uses scope vars p lower lo limit calls g (λ temporaries cd middle. TrArguments m scope vars (objects ns) ns b.live temporaries cd middle) ns nowhere rest code b (evs m.functions lo ns env b.state) t ready.turns tt is
+          call_ends program m linked scope vars p lower lo limit calls g (λ temporaries cd middle. TrArguments m scope vars (objects ns) ns b.live temporaries cd middle) ns nowhere rest code b (evs program m lo ns env b.state) t ready.turns tt is
           (λ temporaries middle values. sim_arguments ns (objects ns) b temporaries code middle env t values ready)
       sim_unused (Primitive q ns) b code rest env t is ready =
           let r = rep_of (result_of q) in
           let hs = haves scope (params_of q) ns in
-          applied vars p lower limit (params_of q) r (primitive_work vars p lower limit q) nowhere rest (λ vs s. primitive q vs s) (λ vs s. refl) (λ temporaries cd middle. TrArguments m scope vars (params_of q) ns b.live temporaries cd middle) hs b code (evs m.functions lo ns env b.state) (runs code b.frame t) ready.turns tt is
+          applied vars p lower limit (params_of q) r (primitive_work vars p lower limit q) nowhere rest (λ vs s. primitive q vs s) (λ vs s. refl) (λ temporaries cd middle. TrArguments m scope vars (params_of q) ns b.live temporaries cd middle) hs b code (evs program m lo ns env b.state) (runs code b.frame t) ready.turns tt is
           (sim_arguments ns (params_of q) b is.temporaries code is.middle env t is.values ready)
 
-      sim_all_unused : (ts : Trees) (b : Base) (code rest : Code) (v : Value) (env : Environment) (t : CState) → TrAllUnused m scope vars ts b.live code rest → Ready vars scope env limit b t → Passed vars p lower rest b (ev_last m.functions lo ts v env b.state) (runs code b.frame t)
+      pub sim_all_unused : (ts : Trees) (b : Base) (code rest : Code) (v : Value) (env : Environment) (t : CState) → TrAllUnused m scope vars ts b.live code rest → Ready vars scope env limit b t → Passed vars p lower rest b (ev_last program m lo ts v env b.state) (runs code b.frame t)
       sim_all_unused none b code rest v env t is ready =
           record { later = b.world; g = b.frame; t = t; is = ap (λ x. runs x b.frame t) is; here = tt; moved = moved_same vars b; same = ready.same }
       sim_all_unused (more n ns) b code rest v env t is ready =
-          sequel (λ d u s x. Passes vars p lower rest d u s x) is.middle b (ev m.functions lo n env b.state) (λ u s. ev_last m.functions lo ns u env s) (runs code b.frame t)
+          sequel (λ d u s x. Passes vars p lower rest d u s x) is.middle b (ev program m lo n env b.state) (λ u s. ev_last program m lo ns u env s) (runs code b.frame t)
           (λ d e moved u s x r. reached_on vars p lower b d rest (λ world f. Unit {0}) s x (λ y i. subst (λ l. In y l) (sym e) i) moved r)
           (λ f later s t1 u moved same. sim_all_unused ns (from b.live f later s) is.middle rest u env t1 is.all (ready_on vars scope env limit b (from b.live f later s) t t1 ready (λ x i. i) moved same))
           (sim_unused n b code is.middle env t is.one ready)
 
-      sim_last : (ts : Trees) (h : Rep) (b : Base) (place : Place) (code rest : Code) (v : Value) (env : Environment) (t : CState) → TrLast m scope vars ts h b.live place code rest → Free vars b.live place → Ready vars scope env limit b t → At vars p lower place h rest b (ev_last m.functions lo ts v env b.state) (runs code b.frame t)
+      sim_last : (ts : Trees) (h : Rep) (b : Base) (place : Place) (code rest : Code) (v : Value) (env : Environment) (t : CState) → TrLast m scope vars ts h b.live place code rest → Free vars b.live place → Ready vars scope env limit b t → At vars p lower place h rest b (ev_last program m lo ts v env b.state) (runs code b.frame t)
       sim_last none h b place code rest v env t is free ready = absurd is
       sim_last (more n none) h b place code rest v env t is free ready =
-          subst (λ o. At vars p lower place h rest b o (runs code b.frame t)) (sym (one_part m.functions lo n v env b.state))
-          (coerced (has_of scope n h) h (λ pl cd rs. Tr m scope vars n (has_of scope n h) b.live pl cd rs) place rest b code (ev m.functions lo n env b.state) t is free
+          subst (λ o. At vars p lower place h rest b o (runs code b.frame t)) (sym (one_part program m lo n v env b.state))
+          (coerced (has_of scope n h) h (λ pl cd rs. Tr m scope vars n (has_of scope n h) b.live pl cd rs) place rest b code (ev program m lo n env b.state) t is free
           (λ pl cd rs tr free1. sim n (has_of scope n h) b pl cd rs env t tr free1 ready))
       sim_last (more n (more u us)) h b place code rest v env t is free ready =
-          sequel (λ d w s x. Arrived vars p lower place h rest d w s x) is.middle b (ev m.functions lo n env b.state) (λ w s. ev_last m.functions lo (more u us) w env s) (runs code b.frame t)
+          sequel (λ d w s x. Arrived vars p lower place h rest d w s x) is.middle b (ev program m lo n env b.state) (λ w s. ev_last program m lo (more u us) w env s) (runs code b.frame t)
           (λ d e moved w s x r. arrived_on vars p lower place h rest b d w s x (λ y i. subst (λ l. In y l) (sym e) i) moved r)
           (λ f later s t1 w moved same. sim_last (more u us) h (from b.live f later s) place is.middle rest w env t1 is.all free (ready_on vars scope env limit b (from b.live f later s) t t1 ready (λ x i. i) moved same))
           (sim_unused n b code is.middle env t is.one ready)
 
-      sim_arguments : (ns : Trees) (ts : List Ty) (b : Base) (temporaries : List Name) (code rest : Code) (env : Environment) (t : CState) → TrArguments m scope vars ts ns b.live temporaries code rest → Ready vars scope env limit b t → Evaluated vars p lower (haves scope ts ns) temporaries rest b (evs m.functions lo ns env b.state) (runs code b.frame t)
+      sim_arguments : (ns : Trees) (ts : List Ty) (b : Base) (temporaries : List Name) (code rest : Code) (env : Environment) (t : CState) → TrArguments m scope vars ts ns b.live temporaries code rest → Ready vars scope env limit b t → Evaluated vars p lower (haves scope ts ns) temporaries rest b (evs program m lo ns env b.state) (runs code b.frame t)
       sim_arguments none [] b temporaries code rest env t is ready =
           record { later = b.world; g = b.frame; t = t; is = ap (λ x. runs x b.frame t) is.1; here = subst (λ z. AllRep vars b.world b.frame [] [] z) (sym is.0) no_values; moved = moved_same vars b; same = ready.same }
       sim_arguments (more n ns) (type ∷ ts) b temporaries code rest env t is ready =
@@ -168,10 +168,10 @@ module _ (vars : List CVar) (p : List Fun) (lower : CLower) where
           let flow = runs code b.frame t in
           let live = is.first ∷ b.live in
           let target : Target vars b.live is.first = record { fresh = is.fresh; type = _; is_local = is.is_local } in
-          subst (λ z. Evaluated vars p lower (r ∷ hs) z rest b (evs m.functions lo (more n ns) env b.state) flow) (sym is.are)
-          (bind_ends vars (λ v s x. Arrived vars p lower (into is.first) r is.middle b v s x) (λ vs s x. Reached vars p lower b rest (λ world f. AllRep vars world f (r ∷ hs) vs (is.first ∷ is.rest)) s x) b (ev m.functions lo n env b.state) (λ v s. bind (evs m.functions lo ns env s) (λ vs s2. src.Gives (v ∷ vs) s2)) flow
+          subst (λ z. Evaluated vars p lower (r ∷ hs) z rest b (evs program m lo (more n ns) env b.state) flow) (sym is.are)
+          (bind_ends vars (λ v s x. Arrived vars p lower (into is.first) r is.middle b v s x) (λ vs s x. Reached vars p lower b rest (λ world f. AllRep vars world f (r ∷ hs) vs (is.first ∷ is.rest)) s x) b (ev program m lo n env b.state) (λ v s. bind (evs program m lo ns env s) (λ vs s2. src.Gives (v ∷ vs) s2)) flow
           (sim n r b (into is.first) code is.middle env t is.given target ready)
-          (λ v s here. evaluated_first vars p lower r hs is.first is.rest is.middle rest b v s (evs m.functions lo ns env s) flow target here
+          (λ v s here. evaluated_first vars p lower r hs is.first is.rest is.middle rest b v s (evs program m lo ns env s) flow target here
           (λ f later t1 moved same. sim_arguments ns ts (from live f later s) is.rest is.middle rest env t1 is.all (ready_on vars scope env limit b (from live f later s) t t1 ready (λ x i. inr i) moved same))))
       sim_arguments none (type ∷ ts) b temporaries code rest env t is ready = absurd is
       sim_arguments (more n ns) [] b temporaries code rest env t is ready = absurd is

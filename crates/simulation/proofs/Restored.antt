@@ -95,7 +95,7 @@ globals_stay world later b no_globals = no_globals
 globals_stay world later b (global here others) = global (global_blocks _ _ world later b here) (globals_stay world later b others)
 
 alike_blocks : (o : Object) (block : Block) (world later : World) → Blocks world later → Alike world o block → Alike later o block
-alike_blocks (Closure f) block world later b h = absurd h
+alike_blocks (Closure m f) block world later b h = absurd h
 
 pub same_blocks : (world later : World) (s : State) (t : CState) → Blocks world later → Blocks later world → length later ≡ length world → Same world s t → Same later s t
 same_blocks world later s t b back e h =

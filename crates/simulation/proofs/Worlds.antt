@@ -95,16 +95,16 @@ hide_away (r ∷ rs) (suc k) e = hide_away rs k e
 
 -- what an object can become
 abbrev pub Follows : Object → Option Object → Type 0
-Follows (Closure f) later = later ≡ Some (Closure f)
+Follows (Closure m f) later = later ≡ Some (Closure m f)
 
 abbrev pub Kinds : List Object → List Object → Type 0
 Kinds store later = (k : ℕ) (o : Object) → slice_get store k ≡ Some o → Follows o (slice_get later k)
 
 follows_same : (o : Object) → Follows o (Some o)
-follows_same (Closure f) = refl
+follows_same (Closure m f) = refl
 
 follows_on : (o : Object) (a b : Option Object) → Follows o a → ((o1 : Object) → a ≡ Some o1 → Follows o1 b) → Follows o b
-follows_on (Closure f) a b h go = go (Closure f) h
+follows_on (Closure m f) a b h go = go (Closure m f) h
 
 pub kinds_same : (store : List Object) → Kinds store store
 kinds_same store k o e = subst (λ q. Follows o q) (sym e) (follows_same o)
@@ -127,7 +127,7 @@ frozen_hidden world s later h = record { turns = h.turns; away = λ k e. h.away 
 
 -- an object and its block. A procedure object of a function that is only called has none
 abbrev pub Alike : World → Object → Block → Type 0
-Alike world (Closure f) block = ⊥
+Alike world (Closure m f) block = ⊥
 
 pub record Mapped (world : World) (store : List Object) (heap : List Block) (k j : ℕ) : Type 0 where
   pub object : Object

@@ -1,19 +1,24 @@
 -- The law.
-use Rattle.std.specs.Prelude.{◌≡◌, ℕ, List, Some}
-use Rattle.core_tree.specs.Tree.{ModuleTree}
+use Rattle.std.specs.Prelude.{◌≡◌, ℕ, List, [], ◌∷◌}
+use Rattle.core_tree.specs.Tree.{ModuleTree, Callee}
 use Rattle.meaning.specs.Program.{src, IsProgram}
-use Rattle.c_tree.specs.Code.{Item}
 use Rattle.c_tree.specs.Spelling.{NamedItems}
 use Rattle.c_meaning.specs.Program.{cm}
 use Rattle.c_meaning.specs.Checked.{IsChecked}
-use Rattle.plan_rules.specs.Joined.{joined}
+use Rattle.plan_rules.specs.Joined.{Part, joined}
 use Rattle.plan_rules.specs.Translation.{Translated}
 
--- what a linked program of a module is
-pub record IsFaithful (m : ModuleTree) (main : List ℕ) (items : List Item) : Type 0 where
-  pub named : NamedItems (joined m.name main items)
-  pub checked : IsChecked (joined m.name main items)
-  pub same : (input : List ℕ) (args : List (List ℕ)) (turns : ℕ) → cm (joined m.name main items) input args turns ≡ src m input args turns
+-- the units of these modules, in this order
+abbrev pub AreTranslated : List ModuleTree → List Part → Type 0
+AreTranslated [] [] = Unit {0}
+AreTranslated (m ∷ ms) (p ∷ ps) = (p.module_name ≡ m.name) × Translated m p.items × AreTranslated ms ps
+AreTranslated _ _ = ⊥
+
+-- what the linked program of modules is
+pub record IsFaithful (program : List ModuleTree) (parts : List Part) (main : Callee) : Type 0 where
+  pub named : NamedItems (joined parts main)
+  pub checked : IsChecked (joined parts main)
+  pub same : (input : List ℕ) (args : List (List ℕ)) (turns : ℕ) → cm (joined parts main) input args turns ≡ src program input args turns
 
 unfoldable pub KeepsMeaning : Type 0
-KeepsMeaning = (m : ModuleTree) (main : List ℕ) (items : List Item) → m.main ≡ Some main → IsProgram m → Translated m items → IsFaithful m main items
+KeepsMeaning = (program : List ModuleTree) (parts : List Part) (is : IsProgram program) → AreTranslated program parts → IsFaithful program parts is.main

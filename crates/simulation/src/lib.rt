@@ -1,9 +1,9 @@
-//! The law that ties the two meanings: a translated unit, linked, means what its module means.
+//! The law that ties the two meanings: the translated units of a program's modules, linked, mean what the modules mean.
 #![tactic(auto)]
 
 ghost use Rattle.simulation.specs.Law.{KeepsMeaning};
 
-/// A linked program of a translated unit is checked, has a spelling, and prints and ends as its module's plain meaning says, for every input, arguments and number of turns.
+/// A linked program of translated units is checked, has a spelling, and prints and ends as the plain meaning of its modules says, for every input, arguments and number of turns.
 pub fn law()
     ensures { KeepsMeaning }
 {}

@@ -1,4 +1,4 @@
-use Rattle.simulation.proofs.Main.{keeps_meaning}
+use Rattle.simulation.proofs.Faithful.{keeps_meaning}
 use Rattle.simulation.proofs.law.Goals as goal
 
 pub returns : goal.returns

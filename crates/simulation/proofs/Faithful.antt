@@ -1,0 +1,25 @@
+-- The linked program of translated modules is checked, has its names, and does what they do.
+use Rattle.std.proofs.Common.{◌≡◌, List, [], true}
+use Rattle.std.specs.Prelude.{◌&&◌}
+use Rattle.std.specs.List.{list_any}
+use Rattle.std.proofs.lemmas.Bool.{and_parts}
+use Rattle.c_tree.specs.Code.{Item}
+use Rattle.c_tree.specs.Names.{is_main}
+use Rattle.c_meaning.specs.Checked.{are_distinct, items_fit, defined_names, calls_each_once, is_sound, is_checked}
+use Rattle.plan_rules.specs.Joined.{joined}
+use Rattle.simulation.specs.Law.{KeepsMeaning}
+use Rattle.simulation.proofs.Checked.{joined_checked, joined_named}
+use Rattle.simulation.proofs.Main.{does_the_same}
+
+-- no name is defined twice in a checked program
+distinct_in : (items : List Item) → is_checked items ≡ true → are_distinct (defined_names items) ≡ true
+unfolding is_checked is_sound
+distinct_in items checked =
+    let sound = and_parts (is_sound items) (list_any is_main (defined_names items) && calls_each_once items) checked in
+    (and_parts (are_distinct (defined_names items)) (items_fit (defined_names items) [] items) sound.0).0
+
+pub keeps_meaning : KeepsMeaning
+unfolding KeepsMeaning
+keeps_meaning program parts is are =
+    let checked = joined_checked program parts is are in
+    record { named = joined_named program parts is are; checked = checked; same = does_the_same program parts is are (distinct_in (joined parts is.main) checked) }

@@ -1,0 +1,320 @@
+-- Small modules and units with expressions among their top-level forms that are translations: the initialisation has their statements.
+use Rattle.std.proofs.Common.{rules, ◌≡◌, List, [], ◌∷◌, None, Some, refl}
+use Rattle.std.specs.Prelude.{codes}
+use Rattle.base_io.specs.declared.end.End.TheVariants.{Ended, Spent}
+use Rattle.scheme_data.specs.Decimal.{decimal_text}
+use Rattle.prim_table.specs.declared.primitives.Primitive.TheVariants.{Display}
+use Rattle.iface_text.specs.Lines.{untyped_row}
+use Rattle.core_tree.specs.Tree.{Tree, If, Trees, none, more, FunctionTree, ModuleTree}
+use Rattle.core_tree.specs.WellFormed.{IsWellFormed}
+use Rattle.meaning.specs.Program.{IsProgram}
+use Rattle.c_tree.specs.declared.op.Op.TheVariants.{UnboxLong, Primitive as Does}
+use Rattle.c_tree.specs.declared.tree.CTy.TheVariants.{Obj, Long, Int}
+use Rattle.c_tree.specs.declared.tree.CVar.{CVar}
+use Rattle.c_tree.specs.Code.{Code, done, assign, call, return, test, Item, defined}
+use Rattle.c_tree.specs.Names.{function_name, maker_name, initializer_name, is_function_name, is_local_name, is_label_name}
+use Rattle.c_meaning.specs.Program.{cm}
+use Rattle.plan_rules.specs.Joined.{Part, joined}
+use Rattle.plan_rules.specs.Representation.{operation, local}
+use Rattle.plan_rules.specs.Translation.{Tr, TrUnused, TrAllUnused, TrLast, TrArguments, callees, is_sound_with, Translated}
+use Rattle.simulation.specs.Law.{KeepsMeaning, IsFaithful}
+use Rattle.simulation.proofs.ExampleUnits.{fresh, int, sum_of, less_of, shown, f_name, go_name, x0, x1, x2, x3, x4, x5, x6, x7, calls, var, plus, is_less, boxed, a_number, a_word, variable, only, call_first, a_local, calls_in, function, definition, unspecified, last_items, part, go_of, function_so, forms_so, declared_so, kept_one}
+use Rattle.simulation.proofs.ImportExamples.{a_name, b_name, called_f, f_callee, used_f, f_declared}
+use Rattle.simulation.proofs.Faithful.{keeps_meaning}
+
+-- Forms of a module with a function ---------------------------------------------------------
+
+abbrev f_body : Tree
+f_body = only (sum_of (variable 0) (int 1))
+
+abbrev f_function : FunctionTree
+f_function = function f_name (record { 0 = 0 } ∷ []) f_body
+
+abbrev f_of : Tree → Tree
+f_of t = call_first (more t none)
+
+abbrev a_forms : Trees
+a_forms = more (shown (int 1)) (more (If (less_of (f_of (int 0)) (int 2)) (shown (f_of (int 3))) (int 7)) none)
+
+-- `(module a (export (f x))) (display 1) (define (f x) (+ x 1)) (if (< (f 0) 2) (display (f 3)) 7)`
+abbrev exporting : ModuleTree
+exporting = record { name = a_name; imports = []; functions = f_function ∷ []; forms = a_forms; uses = []; exports = untyped_row f_name 1 ∷ []; main = None }
+
+abbrev f_locals : List CVar
+f_locals = var Obj x1 ∷ var Long x2 ∷ var Long x3 ∷ var Long x4 ∷ []
+
+abbrev f_code : Code
+f_code = assign x1 (a_local x0) (assign x2 (a_number 1) (assign x3 (calls UnboxLong (local x1 ∷ [])) (assign x4 (plus x3 x2) (return (boxed x4) done))))
+
+-- the initialisation has no parameter, so that its first local is `x0`
+abbrev a_locals : List CVar
+a_locals = var Obj x0 ∷ var Obj x1 ∷ var Obj x2 ∷ var Long x3 ∷ var Long x4 ∷ var Int x5 ∷ var Obj x6 ∷ var Obj x7 ∷ []
+
+abbrev shown_code : Code
+shown_code = assign x6 (a_word 3) (assign x7 (calls_in a_name f_name (local x6 ∷ [])) (call (operation (Does Display) (local x7 ∷ [])) done))
+
+abbrev branch_code : Code
+branch_code = assign x1 (a_word 0) (assign x2 (calls_in a_name f_name (local x1 ∷ [])) (assign x3 (a_number 2) (assign x4 (calls UnboxLong (local x2 ∷ [])) (assign x5 (is_less x4 x3) (test (a_local x5) shown_code done unspecified)))))
+
+abbrev a_code : Code
+a_code = assign x0 (a_word 1) (call (operation (Does Display) (local x0 ∷ [])) branch_code)
+
+abbrev a_unit : List Item
+a_unit = defined (definition a_name f_name f_locals f_code) ∷ last_items a_name a_locals a_code
+
+forms_evaluated : Translated exporting a_unit
+unfolding Tr TrUnused TrAllUnused TrLast TrArguments is_sound_with function_name maker_name initializer_name is_function_name is_local_name is_label_name
+forms_evaluated =
+    record {
+      functions = (
+        function_so exporting f_name f_locals f_body f_code
+            (record {
+              temporary = x4;
+              middle = _;
+              fresh = fresh x4 (x0 ∷ []) refl;
+              is_local = refl;
+              box = refl;
+              value = (
+                refl,
+                record {
+                  temporaries = x1 ∷ x2 ∷ [];
+                  made = x3 ∷ x2 ∷ [];
+                  middle = _;
+                  last = _;
+                  is = refl;
+                  values = record { first = x1; rest = x2 ∷ []; middle = _; are = refl; fresh = fresh x1 (x0 ∷ []) refl; is_local = refl; given = (refl, refl); all = record { first = x2; rest = []; middle = _; are = refl; fresh = fresh x2 (x1 ∷ x0 ∷ []) refl; is_local = refl; given = refl; all = (refl, refl) } };
+                  fit = record {
+                    first = x3;
+                    rest = x2 ∷ [];
+                    middle = _;
+                    are = refl;
+                    fits = record { fresh = fresh x3 (x1 ∷ x2 ∷ x0 ∷ []) refl; is_local = refl; is = refl };
+                    all = record { first = x2; rest = []; middle = _; are = refl; fits = (refl, refl); all = (refl, refl) };
+                  };
+                },
+              );
+            }),
+        forms_so exporting a_locals a_code
+            (record {
+              middle = branch_code;
+              one = record {
+                temporaries = x0 ∷ [];
+                made = x0 ∷ [];
+                middle = _;
+                last = _;
+                is = refl;
+                values = record { first = x0; rest = []; middle = _; are = refl; fresh = fresh x0 [] refl; is_local = refl; given = refl; all = (refl, refl) };
+                fit = kept_one _ x0 (x0 ∷ []) _;
+              };
+              all = record {
+                middle = unspecified;
+                all = refl;
+                one = record {
+                  temporary = x5;
+                  middle = _;
+                  first = _;
+                  second = _;
+                  fresh = fresh x5 [] refl;
+                  is_local = refl;
+                  is = refl;
+                  else_taken = refl;
+                  given = (
+                    refl,
+                    record {
+                      temporaries = x2 ∷ x3 ∷ [];
+                      made = x4 ∷ x3 ∷ [];
+                      middle = _;
+                      last = _;
+                      is = refl;
+                      values = record {
+                        first = x2;
+                        rest = x3 ∷ [];
+                        middle = _;
+                        are = refl;
+                        fresh = fresh x2 [] refl;
+                        is_local = refl;
+                        given = (
+                          refl,
+                          record {
+                            temporaries = x1 ∷ [];
+                            made = x1 ∷ [];
+                            middle = _;
+                            last = _;
+                            is = refl;
+                            values = record { first = x1; rest = []; middle = _; are = refl; fresh = fresh x1 [] refl; is_local = refl; given = refl; all = (refl, refl) };
+                            fit = kept_one _ x1 (x1 ∷ []) _;
+                          },
+                        );
+                        all = record { first = x3; rest = []; middle = _; are = refl; fresh = fresh x3 (x2 ∷ []) refl; is_local = refl; given = refl; all = (refl, refl) };
+                      };
+                      fit = record {
+                        first = x4;
+                        rest = x3 ∷ [];
+                        middle = _;
+                        are = refl;
+                        fits = record { fresh = fresh x4 (x2 ∷ x3 ∷ []) refl; is_local = refl; is = refl };
+                        all = record { first = x3; rest = []; middle = _; are = refl; fits = (refl, refl); all = (refl, refl) };
+                      };
+                    },
+                  );
+                  taken = record {
+                    temporaries = x7 ∷ [];
+                    made = x7 ∷ [];
+                    middle = _;
+                    last = _;
+                    is = refl;
+                    values = record {
+                      first = x7;
+                      rest = [];
+                      middle = _;
+                      are = refl;
+                      fresh = fresh x7 [] refl;
+                      is_local = refl;
+                      all = (refl, refl);
+                      given = (
+                        refl,
+                        record {
+                          temporaries = x6 ∷ [];
+                          made = x6 ∷ [];
+                          middle = _;
+                          last = _;
+                          is = refl;
+                          values = record { first = x6; rest = []; middle = _; are = refl; fresh = fresh x6 [] refl; is_local = refl; given = refl; all = (refl, refl) };
+                          fit = kept_one _ x6 (x6 ∷ []) _;
+                        },
+                      );
+                    };
+                    fit = kept_one _ x7 (x7 ∷ []) _;
+                  };
+                };
+              };
+            }),
+      );
+      declarations = tt;
+      named = search rules;
+      sound = refl;
+    }
+
+-- A form that calls a function of another module --------------------------------------------
+
+-- `(module b (import (f a)) (main go)) (display (f 2)) (define (go args) 0)`
+abbrev importing : ModuleTree
+importing =
+    record {
+      name = b_name;
+      imports = record { module_name = a_name; names = f_name ∷ [] } ∷ [];
+      functions = function go_name (record { 0 = 0 } ∷ []) (only (int 0)) ∷ [];
+      forms = more (shown (used_f (more (int 2) none))) none;
+      uses = called_f ∷ [];
+      exports = [];
+      main = Some go_name;
+    }
+
+abbrev b_code : Code
+b_code = assign x0 (a_word 2) (assign x1 (calls_in a_name f_name (local x0 ∷ [])) (call (operation (Does Display) (local x1 ∷ [])) unspecified))
+
+abbrev b_unit : List Item
+b_unit = f_declared ∷ defined (definition b_name go_name [] (return (a_word 0) done)) ∷ last_items b_name (var Obj x0 ∷ var Obj x1 ∷ []) b_code
+
+import_called_by_a_form : Translated importing b_unit
+unfolding Tr TrUnused TrAllUnused TrLast TrArguments is_sound_with function_name maker_name initializer_name is_function_name is_local_name is_label_name
+import_called_by_a_form =
+    record {
+      functions = (
+        function_so importing go_name [] (only (int 0)) _ refl,
+        forms_so importing (var Obj x0 ∷ var Obj x1 ∷ []) b_code
+            (record {
+              middle = unspecified;
+              all = refl;
+              one = record {
+                temporaries = x1 ∷ [];
+                made = x1 ∷ [];
+                middle = _;
+                last = _;
+                is = refl;
+                values = record {
+                  first = x1;
+                  rest = [];
+                  middle = _;
+                  are = refl;
+                  fresh = fresh x1 [] refl;
+                  is_local = refl;
+                  all = (refl, refl);
+                  given = (
+                    refl,
+                    record {
+                      temporaries = x0 ∷ [];
+                      made = x0 ∷ [];
+                      middle = _;
+                      last = _;
+                      is = refl;
+                      values = record { first = x0; rest = []; middle = _; are = refl; fresh = fresh x0 [] refl; is_local = refl; given = refl; all = (refl, refl) };
+                      fit = kept_one _ x0 (x0 ∷ []) _;
+                    },
+                  );
+                };
+                fit = kept_one _ x1 (x1 ∷ []) _;
+              };
+            }),
+      );
+      declarations = (declared_so (callees importing) 1 f_callee refl, tt);
+      named = search rules;
+      sound = refl;
+    }
+
+-- The linked program ------------------------------------------------------------------------
+
+abbrev modules : List ModuleTree
+modules = exporting ∷ importing ∷ []
+
+abbrev parts : List Part
+parts = part a_name a_unit ∷ part b_name b_unit ∷ []
+
+-- the forms of `a`, then that of `b`; `f` is called three times, and `go` once
+forms_print_in_order : cm (joined parts (go_of b_name)) [] [] 4 ≡ record { output = codes "143"; end = Ended 0 }
+unfolding cm joined decimal_text function_name maker_name initializer_name
+forms_print_in_order = refl
+
+calls_in_forms_take_turns : cm (joined parts (go_of b_name)) [] [] 2 ≡ record { output = codes "14"; end = Spent }
+unfolding cm joined decimal_text function_name maker_name initializer_name
+calls_in_forms_take_turns = refl
+
+-- and the law says so of the modules
+exporting_formed : IsWellFormed exporting
+exporting_formed =
+    record {
+      name = search rules;
+      imports = tt;
+      functions = (record { name = search rules; body = search rules }, tt);
+      forms = search rules;
+      distinct = refl;
+      uses = tt;
+      once = refl;
+      ordered = refl;
+      rows = (record { is_name = search rules; is_new = refl; is_untyped = ((refl, tt), refl) }, tt);
+      exported = refl;
+      main = tt;
+    }
+
+importing_formed : IsWellFormed importing
+importing_formed =
+    record {
+      name = search rules;
+      imports = (record { module_name = search rules; names = (search rules, tt); some = refl }, tt);
+      functions = (record { name = search rules; body = search rules }, tt);
+      forms = search rules;
+      distinct = refl;
+      uses = (record { module_name = search rules; foreign = refl; name = search rules; untyped = ((refl, tt), refl); imported = refl }, tt);
+      once = refl;
+      ordered = refl;
+      rows = tt;
+      exported = refl;
+      main = refl;
+    }
+
+abbrev are_program : IsProgram modules
+are_program = record { formed = (exporting_formed, (importing_formed, tt)); distinct = refl; linked = refl; main = go_of b_name; is_main = refl; function = _; is = refl; one = (record { 0 = 0 }, refl) }
+
+faithful : IsFaithful modules parts (go_of b_name)
+unfolding KeepsMeaning
+faithful = keeps_meaning modules parts are_program (refl, forms_evaluated, (refl, import_called_by_a_form, tt))
