@@ -1,14 +1,14 @@
 -- Calls, branches and lists of expressions, as far as they were walked.
-use Rattle.std.proofs.Common.{◌≡◌, ◌≢◌, ℕ, ◌+◌, ◌-◌, ◌<◌, ◌≤◌, List, [], ◌∷◌, ◌++◌, map, length, drop, take, get_or, slice_get, remove, Option, Some, None, Result, IfOk, refl, sym, ap, subst, ◌∙◌, arith}
+use Rattle.std.proofs.Common.{◌≡◌, ◌≢◌, ℕ, ◌+◌, ◌-◌, ◌<◌, ◌≤◌, List, [], ◌∷◌, ◌++◌, length, drop, take, get_or, slice_get, remove, Option, Some, None, Result, IfOk, refl, sym, ap, subst, ◌∙◌, arith}
 use Rattle.std.specs.Option.{option_map}
-use Rattle.std.proofs.lemmas.List.{drop_more, drop_all, map-append}
+use Rattle.std.proofs.lemmas.List.{drop_more, drop_all}
 use Rattle.scheme_data.specs.Data.{plain, plain_all}
 use Rattle.scheme_data.specs.declared.datum.Place.{Place}
 use Rattle.scheme_data.specs.declared.datum.Datum.{Datum}
 use Rattle.scheme_data.specs.declared.datum.Datum.TheVariants as datum
 use Rattle.core_tree.specs.declared.tree.Node.{Node}
 use Rattle.core_tree.specs.declared.tree.Node.TheVariants as node
-use Rattle.core_tree.specs.Tree.{Tree, If, Trees, trees, tree, none}
+use Rattle.core_tree.specs.Tree.{If, Trees, tree, none, more}
 use Rattle.module_head.specs.Heads.{symbol_of}
 use Rattle.resolver.specs.Drafts.{Scope, Operator, count, operator, branched, applied, onto, expression, expressions, non_empty}
 use Rattle.resolver.specs.Parts.{node_trees}
@@ -80,24 +80,24 @@ not_three (a ∷ b ∷ c ∷ d ∷ ns) l = refl
 
 -- Lists of expressions: some trees, and then these.
 
-abbrev pub ahead : List Tree → Option Trees → Option Trees
-ahead [] rest = rest
-ahead (t ∷ ts) rest = onto (Some t) (ahead ts rest)
+abbrev pub ahead : Trees → Option Trees → Option Trees
+ahead none rest = rest
+ahead (more t ts) rest = onto (Some t) (ahead ts rest)
 
 abbrev pub IsSoFar : Scope → List Datum → List Node → ℕ → Type 0
-IsSoFar s ds ns i = expressions s (plain_all ds) ≡ ahead (map tree ns) (expressions s (plain_all (drop i ds)))
+IsSoFar s ds ns i = expressions s (plain_all ds) ≡ ahead (node_trees ns) (expressions s (plain_all (drop i ds)))
 
-ahead_none : (ts : List Tree) → ahead ts None ≡ None
-ahead_none [] = refl
-ahead_none (t ∷ ts) = ap (onto (Some t)) (ahead_none ts)
+pub ahead_none : (ts : Trees) → ahead ts None ≡ None
+ahead_none none = refl
+ahead_none (more t ts) = ap (onto (Some t)) (ahead_none ts)
 
-ahead_all : (ts : List Tree) → ahead ts (Some none) ≡ Some (trees ts)
-ahead_all [] = refl
-ahead_all (t ∷ ts) = ap (onto (Some t)) (ahead_all ts)
+pub ahead_all : (ts : Trees) → ahead ts (Some none) ≡ Some ts
+ahead_all none = refl
+ahead_all (more t ts) = ap (onto (Some t)) (ahead_all ts)
 
-ahead_one : (ts : List Tree) (t : Tree) (rest : Option Trees) → ahead (ts ++ t ∷ []) rest ≡ ahead ts (onto (Some t) rest)
-ahead_one [] t rest = refl
-ahead_one (s ∷ ts) t rest = ap (onto (Some s)) (ahead_one ts t rest)
+ahead_one : (ns : List Node) (n : Node) (rest : Option Trees) → ahead (node_trees (ns ++ n ∷ [])) rest ≡ ahead (node_trees ns) (onto (Some (tree n)) rest)
+ahead_one [] n rest = refl
+ahead_one (m ∷ ns) n rest = ap (onto (Some (tree m))) (ahead_one ns n rest)
 
 one_more : (s : Scope) (ds : List Datum) (i : ℕ) (d : Datum) → i < length ds → d ≡ get_or ds i d
     → expressions s (plain_all (drop i ds)) ≡ onto (expression s (plain d)) (expressions s (plain_all (drop (i + 1) ds)))
@@ -108,18 +108,18 @@ one_more s ds i d l e =
 pub so_far_not : (s : Scope) (ds : List Datum) (ns : List Node) (i : ℕ) (d : Datum) → i < length ds → d ≡ get_or ds i d → IsSoFar s ds ns i
     → None ≡ expression s (plain d) → None ≡ expressions s (plain_all ds)
 so_far_not s ds ns i d l e h n =
-    sym (h ∙ ap (ahead (map tree ns)) (one_more s ds i d l e ∙ ap (λ t. onto t (expressions s (plain_all (drop (i + 1) ds)))) (sym n)) ∙ ahead_none (map tree ns))
+    sym (h ∙ ap (ahead (node_trees ns)) (one_more s ds i d l e ∙ ap (λ t. onto t (expressions s (plain_all (drop (i + 1) ds)))) (sym n)) ∙ ahead_none (node_trees ns))
 
 pub so_far_more : (s : Scope) (ds : List Datum) (ns ms : List Node) (i : ℕ) (d : Datum) (n : Node) → i < length ds → d ≡ get_or ds i d → IsSoFar s ds ns i
     → Some (tree n) ≡ expression s (plain d) → ms ≡ ns ++ n ∷ [] → IsSoFar s ds ms (i + 1)
 so_far_more s ds ns ms i d n l e h t m =
     let rest = expressions s (plain_all (drop (i + 1) ds)) in
-    h ∙ ap (ahead (map tree ns)) (one_more s ds i d l e ∙ ap (λ t. onto t rest) (sym t))
-    ∙ sym (ap (λ (ms : List Node). ahead (map tree ms) rest) m ∙ ap (λ ts. ahead ts rest) (map-append tree ns (n ∷ [])) ∙ ahead_one (map tree ns) (tree n) rest)
+    h ∙ ap (ahead (node_trees ns)) (one_more s ds i d l e ∙ ap (λ t. onto t rest) (sym t))
+    ∙ sym (ap (λ (ms : List Node). ahead (node_trees ms) rest) m ∙ ahead_one ns n rest)
 
 pub so_far_end : (s : Scope) (ds : List Datum) (ns : List Node) (i : ℕ) → length ds ≤ i → IsSoFar s ds ns i → Some (node_trees ns) ≡ expressions s (plain_all ds)
 so_far_end s ds ns i l h =
-    sym (h ∙ ap (λ (ds : List Datum). ahead (map tree ns) (expressions s (plain_all ds))) (drop_all i ds l) ∙ ahead_all (map tree ns))
+    sym (h ∙ ap (λ (ds : List Datum). ahead (node_trees ns) (expressions s (plain_all ds))) (drop_all i ds l) ∙ ahead_all (node_trees ns))
 
 -- Bodies ------------------------------------------------------------------------------------
 

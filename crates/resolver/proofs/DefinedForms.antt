@@ -1,22 +1,25 @@
--- Definitions and functions by their parts.
-use Rattle.std.proofs.Common.{◌≡◌, ℕ, ◌+◌, ◌-◌, ◌<◌, ◌≤◌, Bool, true, false, ◌&&◌, if◌then◌else◌, codes, nat_eq, List, [], ◌∷◌, ◌++◌, map, length, drop, take, get_or, Option, Some, None, refl, sym, ap, ◌∙◌, arith}
+-- Top-level forms, definitions and functions by their parts.
+use Rattle.std.proofs.Common.{◌≡◌, ℕ, ◌+◌, ◌-◌, ◌<◌, ◌≤◌, Bool, false, List, [], ◌∷◌, ◌++◌, map, length, drop, get_or, Option, Some, None, Result, IfOk, refl, sym, ap, subst, ◌∙◌, arith}
 use Rattle.std.specs.Option.{option_map}
-use Rattle.std.proofs.lemmas.List.{drop_more, drop_all, map-append}
-use Rattle.scheme_data.specs.Data.{Plain, Plains, Listed, plain, plain_all}
+use Rattle.std.proofs.lemmas.List.{append-nil, drop_more, drop_all, map-append}
+use Rattle.scheme_data.specs.Data.{Plain, Listed, plain, plain_all}
 use Rattle.scheme_data.specs.declared.datum.Datum.{Datum}
+use Rattle.core_tree.specs.declared.tree.Lambda.{Lambda}
+use Rattle.core_tree.specs.declared.tree.Node.{Node}
 use Rattle.core_tree.specs.declared.tree.VarId.{VarId}
 use Rattle.core_tree.specs.declared.tree.Top.{Top}
-use Rattle.core_tree.specs.Tree.{Tree, FunctionTree, function_tree}
-use Rattle.resolver.specs.declared.definitions.Definition.{Definition}
-use Rattle.module_head.specs.Heads.{symbol_of, says, are_distinct}
+use Rattle.core_tree.specs.declared.tree.Top.TheVariants as top
+use Rattle.core_tree.specs.Tree.{Tree, Trees, more, tree, FunctionTree, function_tree, functions_in, forms_in}
+use Rattle.module_head.specs.Heads.{HeadTree, says}
 use Rattle.module_head.specs.Parts.{parts_of}
-use Rattle.resolver.specs.Names.{is_defined_name}
-use Rattle.resolver.specs.Drafts.{body, names, named, prototype, definition, definitions, onto_definitions, variables, defined, onto_functions, scope_of, functions}
-use Rattle.resolver.specs.Drafts as plain_definition
-use Rattle.resolver.specs.Parts.{definition_of, distinct, numbered_from}
+use Rattle.resolver.specs.declared.definitions.Definition.{Definition}
+use Rattle.resolver.specs.declared.tops.TopForm.{TopForm}
+use Rattle.resolver.specs.Drafts.{body, onto, expression, expressions, names, named, prototype, definition, Defines, Evaluates, top_form, onto_tops, tops, definitions_in, evaluated_in, defined, onto_functions, functions, top_scope, draft_with, draft_in}
+use Rattle.resolver.specs.Drafts as drafts
+use Rattle.resolver.specs.Parts.{definition_of, top_of, numbered_from, param_count, function_at, Builds}
 use Rattle.resolver.proofs.Layers.{listed_is}
-use Rattle.resolver.proofs.Calls.{rest_of}
-use Rattle.resolver.proofs.Lists.{rest_is, ahead, definition_more, function_more}
+use Rattle.resolver.proofs.Calls.{ahead as ahead_of, ahead_none, ahead_all}
+use Rattle.resolver.proofs.Lists.{ahead, top_more, function_more}
 use Rattle.resolver.proofs.Numbers.{variables_are}
 
 -- Definitions -------------------------------------------------------------------------------
@@ -29,68 +32,148 @@ definition_below_two (a ∷ b ∷ ds) n = absurd (omega arith)
 pub no_definition_below : (d : Plain) (ds : List Datum) → Some (plain_all ds) ≡ parts_of d → length ds < 2 → None ≡ definition d
 no_definition_below d ds e n = sym (ap definition (listed_is d (plain_all ds) e) ∙ definition_below_two ds n)
 
-abbrev pub AreDefined : List Datum → List Definition → ℕ → Type 0
-AreDefined ds ps i = definitions (plain_all ds) ≡ ahead (map definition_of ps) (definitions (plain_all (drop i ds)))
+-- Top-level forms ---------------------------------------------------------------------------
 
-defined_next : (ds : List Datum) (ps : List Definition) (i : ℕ) (d : Datum) (o : Option plain_definition.Definition) → i < length ds → d ≡ get_or ds i d → AreDefined ds ps i
-    → o ≡ definition (plain d) → definitions (plain_all ds) ≡ ahead (map definition_of ps) (onto_definitions o (definitions (plain_all (drop (i + 1) ds))))
-defined_next ds ps i d o l e h n =
-    let rest = definitions (plain_all (drop (i + 1) ds)) in
-    h ∙ ap (λ (ds : List Datum). ahead (map definition_of ps) (definitions (plain_all ds))) (drop_more ds i d l)
-    ∙ ap (λ (d : Datum). ahead (map definition_of ps) (onto_definitions (definition (plain d)) rest)) (sym e)
-    ∙ ap (λ o. ahead (map definition_of ps) (onto_definitions o rest)) (sym n)
+abbrev pub AreTops : List Datum → List TopForm → ℕ → Type 0
+AreTops ds ts i = tops (plain_all ds) ≡ ahead (map top_of ts) (tops (plain_all (drop i ds)))
 
-pub defined_more : (ds : List Datum) (ps qs : List Definition) (i : ℕ) (d : Datum) (p : Definition) → i < length ds → d ≡ get_or ds i d → AreDefined ds ps i
-    → Some (definition_of p) ≡ definition (plain d) → qs ≡ ps ++ p ∷ [] → AreDefined ds qs (i + 1)
-defined_more ds ps qs i d p l e h n q =
-    let rest = definitions (plain_all (drop (i + 1) ds)) in
-    defined_next ds ps i d (Some (definition_of p)) l e h n ∙ definition_more (map definition_of ps) (definition_of p) rest
-    ∙ sym (ap (λ qs. ahead (map definition_of qs) rest) q ∙ ap (λ ps. ahead ps rest) (map-append definition_of ps (p ∷ [])))
+top_next : (ds : List Datum) (ts : List TopForm) (i : ℕ) (d : Datum) (o : Option drafts.TopForm) → i < length ds → d ≡ get_or ds i d → AreTops ds ts i
+    → o ≡ top_form (plain d) → tops (plain_all ds) ≡ ahead (map top_of ts) (onto_tops o (tops (plain_all (drop (i + 1) ds))))
+top_next ds ts i d o l e h n =
+    let rest = tops (plain_all (drop (i + 1) ds)) in
+    h ∙ ap (λ (ds : List Datum). ahead (map top_of ts) (tops (plain_all ds))) (drop_more ds i d l)
+    ∙ ap (λ (d : Datum). ahead (map top_of ts) (onto_tops (top_form (plain d)) rest)) (sym e)
+    ∙ ap (λ o. ahead (map top_of ts) (onto_tops o rest)) (sym n)
 
--- Functions ---------------------------------------------------------------------------------
+pub top_added : (ds : List Datum) (ts us : List TopForm) (i : ℕ) (d : Datum) (t : TopForm) → i < length ds → d ≡ get_or ds i d → AreTops ds ts i
+    → Some (top_of t) ≡ top_form (plain d) → us ≡ ts ++ t ∷ [] → AreTops ds us (i + 1)
+top_added ds ts us i d t l e h n u =
+    let rest = tops (plain_all (drop (i + 1) ds)) in
+    top_next ds ts i d (Some (top_of t)) l e h n ∙ top_more (map top_of ts) (top_of t) rest
+    ∙ sym (ap (λ us. ahead (map top_of us) rest) u ∙ ap (λ ts. ahead ts rest) (map-append top_of ts (t ∷ [])))
 
--- the function of a definition, in a module with these functions and this main function
-abbrev pub function_of : List (List ℕ) → List (List ℕ) → Option (List ℕ) → ℕ → Definition → Option FunctionTree
-function_of all outside main first d = defined first (definition_of d) (body (scope_of all outside main first (definition_of d)) (plain_all d.body.now))
+-- Functions and forms -----------------------------------------------------------------------
 
-pub without_body : (all outside : List (List ℕ)) (main : Option (List ℕ)) (first : ℕ) (d : Definition) (t : Bool) → t ≡ says main d.name.now
-    → None ≡ body (record { functions = all; outside = outside; params = d.params; first = first; in_main = t }) (plain_all d.body.now) → None ≡ function_of all outside main first d
-without_body all outside main first d t w b =
+pub lambda_missing : (all outside : List (List ℕ)) (main : Option (List ℕ)) (first : ℕ) (d : Definition) (t : Bool) → t ≡ says main d.name.now
+    → None ≡ body (record { functions = all; outside = outside; params = d.params; first = first; in_main = t }) (plain_all d.body.now)
+    → None ≡ function_at all outside main first (definition_of d)
+lambda_missing all outside main first d t w b =
     ap (defined first (definition_of d))
     (b ∙ ap (λ t. body (record { functions = all; outside = outside; params = d.params; first = first; in_main = t }) (plain_all d.body.now)) w)
 
-pub function_is : (all outside : List (List ℕ)) (main : Option (List ℕ)) (first end : ℕ) (d : Definition) (t : Bool) (name : List ℕ) (vs : List VarId) (b : Tree) → t ≡ says main d.name.now
+pub lambda_is : (all outside : List (List ℕ)) (main : Option (List ℕ)) (first end : ℕ) (d : Definition) (t : Bool) (vs : List VarId) (b : Tree) → t ≡ says main d.name.now
     → Some b ≡ body (record { functions = all; outside = outside; params = d.params; first = first; in_main = t }) (plain_all d.body.now)
-    → name ≡ d.name.now → vs ≡ numbered_from first (end - first) → end ≡ first + length d.params
-    → Some (record { name = name; params = vs; body = b }) ≡ function_of all outside main first d
-function_is all outside main first end d t name vs b w s n v e =
+    → vs ≡ numbered_from first (end - first) → end ≡ first + length d.params
+    → Some (record { name = d.name.now; params = vs; body = b }) ≡ function_at all outside main first (definition_of d)
+lambda_is all outside main first end d t vs b w s v e =
     let many : end - first ≡ length d.params = omega arith in
-    ap (λ name. Some (record { name = name; params = vs; body = b })) n
-    ∙ ap (λ vs. Some (record { name = d.name.now; params = vs; body = b })) (v ∙ ap (numbered_from first) many ∙ sym (variables_are first d.params))
+    ap (λ vs. Some (record { name = d.name.now; params = vs; body = b })) (v ∙ ap (numbered_from first) many ∙ sym (variables_are first d.params))
     ∙ ap (defined first (definition_of d))
     (s ∙ ap (λ t. body (record { functions = all; outside = outside; params = d.params; first = first; in_main = t }) (plain_all d.body.now)) w)
 
-abbrev pub AreFunctionsOf : List (List ℕ) → List (List ℕ) → Option (List ℕ) → List Definition → List Top → ℕ → ℕ → Type 0
-AreFunctionsOf all outside main ds tops first i =
-    functions all outside main 0 (map definition_of ds) ≡ ahead (map function_tree tops) (functions all outside main first (map definition_of (drop i ds)))
+-- at top level no parameters are seen
+pub form_is : {E : Type 0} (all outside params : List (List ℕ)) (d : Plain) (r : Result (Option Node) E) → params ≡ []
+    → IfOk r (λ n. option_map tree n ≡ expression (record { functions = all; outside = outside; params = params; first = 0; in_main = false }) d)
+    → IfOk r (λ n. option_map tree n ≡ expression (top_scope all outside) d)
+form_is all outside params d r e h =
+    subst (λ (params : List (List ℕ)). IfOk r (λ n. option_map tree n ≡ expression (record { functions = all; outside = outside; params = params; first = 0; in_main = false }) d)) e h
 
-function_next : (all outside : List (List ℕ)) (main : Option (List ℕ)) (ds : List Definition) (tops : List Top) (first i : ℕ) (d : Definition) (o : Option FunctionTree)
-    → i < length ds → d ≡ get_or ds i d → AreFunctionsOf all outside main ds tops first i → o ≡ function_of all outside main first d
-    → functions all outside main 0 (map definition_of ds) ≡ ahead (map function_tree tops) (onto_functions o (functions all outside main (first + length d.params) (map definition_of (drop (i + 1) ds))))
-function_next all outside main ds tops first i d o l e h n =
-    h ∙ ap (λ (ds : List Definition). ahead (map function_tree tops) (functions all outside main first (map definition_of ds))) (drop_more ds i d l)
-    ∙ ap (λ (d : Definition). ahead (map function_tree tops) (onto_functions (function_of all outside main first d) (functions all outside main (first + length d.params) (map definition_of (drop (i + 1) ds))))) (sym e)
-    ∙ ap (λ o. ahead (map function_tree tops) (onto_functions o (functions all outside main (first + length d.params) (map definition_of (drop (i + 1) ds))))) (sym n)
+functions_then : (tops : List Top) (name : List ℕ) (lambda : Lambda) → functions_in (tops ++ top.Function name lambda ∷ []) ≡ functions_in tops ++ function_tree name lambda ∷ []
+functions_then [] name lambda = refl
+functions_then (top.Function f l ∷ tops) name lambda = ap (λ fs. function_tree f l ∷ fs) (functions_then tops name lambda)
+functions_then (top.Form n ∷ tops) name lambda = functions_then tops name lambda
 
-pub no_function : (all outside : List (List ℕ)) (main : Option (List ℕ)) (ds : List Definition) (tops : List Top) (first i : ℕ) (d : Definition)
-    → i < length ds → d ≡ get_or ds i d → AreFunctionsOf all outside main ds tops first i → None ≡ function_of all outside main first d → None ≡ functions all outside main 0 (map definition_of ds)
-no_function all outside main ds tops first i d l e h n = sym (function_next all outside main ds tops first i d None l e h n)
+forms_stay : (tops : List Top) (name : List ℕ) (lambda : Lambda) → forms_in (tops ++ top.Function name lambda ∷ []) ≡ forms_in tops
+forms_stay [] name lambda = refl
+forms_stay (top.Function f l ∷ tops) name lambda = forms_stay tops name lambda
+forms_stay (top.Form n ∷ tops) name lambda = ap (λ ts. more (tree n) ts) (forms_stay tops name lambda)
 
-pub function_added : (all outside : List (List ℕ)) (main : Option (List ℕ)) (ds : List Definition) (tops more : List Top) (first end i : ℕ) (d : Definition) (f : Top)
-    → i < length ds → d ≡ get_or ds i d → AreFunctionsOf all outside main ds tops first i → Some (function_tree f) ≡ function_of all outside main first d
-    → end ≡ first + length d.params → more ≡ tops ++ f ∷ [] → AreFunctionsOf all outside main ds more end (i + 1)
-function_added all outside main ds tops more first end i d f l e h n s m =
-    let rest = functions all outside main (first + length d.params) (map definition_of (drop (i + 1) ds)) in
-    function_next all outside main ds tops first i d (Some (function_tree f)) l e h n ∙ function_more (map function_tree tops) (function_tree f) rest
-    ∙ sym (ap (λ first. ahead (map function_tree more) (functions all outside main first (map definition_of (drop (i + 1) ds)))) s
-    ∙ ap (λ more. ahead (map function_tree more) rest) m ∙ ap (λ fs. ahead fs rest) (map-append function_tree tops (f ∷ [])))
+functions_stay : (tops : List Top) (n : Node) → functions_in (tops ++ top.Form n ∷ []) ≡ functions_in tops
+functions_stay [] n = refl
+functions_stay (top.Function f l ∷ tops) n = ap (λ fs. function_tree f l ∷ fs) (functions_stay tops n)
+functions_stay (top.Form m ∷ tops) n = functions_stay tops n
+
+form_then : (tops : List Top) (n : Node) (rest : Option Trees) → ahead_of (forms_in (tops ++ top.Form n ∷ [])) rest ≡ ahead_of (forms_in tops) (onto (Some (tree n)) rest)
+form_then [] n rest = refl
+form_then (top.Function f l ∷ tops) n rest = form_then tops n rest
+form_then (top.Form m ∷ tops) n rest = ap (onto (Some (tree m))) (form_then tops n rest)
+
+-- In a module with these functions, which calls these of other modules.
+module _ (all outside : List (List ℕ)) (main : Option (List ℕ)) where
+  -- of these functions and forms so many were built, and then come those of the rest
+  pub record Continues (fs : Option (List FunctionTree)) (es : Option Trees) (built : List Top) (first : ℕ) (rest : List drafts.TopForm) : Type 0 where
+    pub functions : fs ≡ ahead (functions_in built) (functions all outside main first (definitions_in rest))
+    pub forms : es ≡ ahead_of (forms_in built) (expressions (top_scope all outside) (evaluated_in rest))
+
+  goes_on : (fs : Option (List FunctionTree)) (es : Option Trees) (built : List Top) (first : ℕ) (t : drafts.TopForm) (rest : List drafts.TopForm) (o : Top)
+      → Continues fs es built first (t ∷ rest) → Builds all outside main first t (Some o) → Continues fs es (built ++ o ∷ []) (first + param_count t) rest
+  goes_on fs es built first (Defines d) rest (top.Function name lambda) h b =
+      let others = functions all outside main (first + length d.params) (definitions_in rest) in
+      record {
+        functions = h.functions ∙ ap (λ f. ahead (functions_in built) (onto_functions f others)) b ∙ function_more (functions_in built) (function_tree name lambda) others
+            ∙ ap (λ fs. ahead fs others) (sym (functions_then built name lambda));
+        forms = h.forms ∙ ap (λ ts. ahead_of ts (expressions (top_scope all outside) (evaluated_in rest))) (sym (forms_stay built name lambda));
+      }
+  goes_on fs es built first (Defines d) rest (top.Form n) h b = absurd b
+  goes_on fs es built first (Evaluates d) rest (top.Function name lambda) h b = absurd b
+  goes_on fs es built first (Evaluates d) rest (top.Form n) h b =
+      let others = expressions (top_scope all outside) (evaluated_in rest) in
+      let same : first ≡ first + 0 = omega arith in
+      record {
+        functions = h.functions ∙ ap (λ fs. ahead fs (functions all outside main first (definitions_in rest))) (sym (functions_stay built n))
+            ∙ ap (λ first. ahead (functions_in (built ++ top.Form n ∷ [])) (functions all outside main first (definitions_in rest))) same;
+        forms = h.forms ∙ ap (λ t. ahead_of (forms_in built) (onto t others)) b ∙ sym (form_then built n others);
+      }
+
+  no_draft : (h : HeadTree) (fs : Option (List FunctionTree)) → draft_with h outside fs None ≡ None
+  no_draft h None = refl
+  no_draft h (Some fs) = refl
+
+  ends : (h : HeadTree) (fs : Option (List FunctionTree)) (es : Option Trees) (built : List Top) (first : ℕ) (t : drafts.TopForm) (rest : List drafts.TopForm)
+      → Continues fs es built first (t ∷ rest) → Builds all outside main first t None → draft_with h outside fs es ≡ None
+  ends h fs es built first (Defines d) rest c b =
+      ap (λ fs. draft_with h outside fs es) (c.functions ∙ ap (λ f. ahead (functions_in built) (onto_functions f (functions all outside main (first + length d.params) (definitions_in rest)))) b)
+  ends h fs es built first (Evaluates d) rest c b =
+      ap (draft_with h outside fs)
+      (c.forms ∙ ap (λ t. ahead_of (forms_in built) (onto t (expressions (top_scope all outside) (evaluated_in rest)))) b ∙ ahead_none (forms_in built))
+      ∙ no_draft h fs
+
+-- as far as top-level forms were walked
+abbrev pub AreBuilt : List (List ℕ) → List (List ℕ) → Option (List ℕ) → List TopForm → List Top → ℕ → ℕ → Type 0
+AreBuilt all outside main ts built first i =
+    Continues all outside main (functions all outside main 0 (definitions_in (map top_of ts))) (expressions (top_scope all outside) (evaluated_in (map top_of ts))) built first (map top_of (drop i ts))
+
+built_next : (all outside : List (List ℕ)) (main : Option (List ℕ)) (ts : List TopForm) (built : List Top) (first i : ℕ) (t : TopForm) → i < length ts → t ≡ get_or ts i t
+    → AreBuilt all outside main ts built first i
+    → Continues all outside main (functions all outside main 0 (definitions_in (map top_of ts))) (expressions (top_scope all outside) (evaluated_in (map top_of ts))) built first
+    (top_of t ∷ map top_of (drop (i + 1) ts))
+built_next all outside main ts built first i t l e h =
+    subst (Continues all outside main (functions all outside main 0 (definitions_in (map top_of ts))) (expressions (top_scope all outside) (evaluated_in (map top_of ts))) built first)
+    (ap (map top_of) (drop_more ts i t l) ∙ ap (λ (t : TopForm). top_of t ∷ map top_of (drop (i + 1) ts)) (sym e)) h
+
+pub not_built : (h : HeadTree) (all outside : List (List ℕ)) (ts : List TopForm) (built : List Top) (first i : ℕ) (t : TopForm) → i < length ts → t ≡ get_or ts i t
+    → AreBuilt all outside h.main ts built first i → Builds all outside h.main first (top_of t) None → None ≡ draft_in h all outside (map top_of ts)
+not_built h all outside ts built first i t l e a b =
+    sym (ends all outside h.main h (functions all outside h.main 0 (definitions_in (map top_of ts))) (expressions (top_scope all outside) (evaluated_in (map top_of ts))) built first
+    (top_of t) (map top_of (drop (i + 1) ts)) (built_next all outside h.main ts built first i t l e a) b)
+
+pub built_more : (all outside : List (List ℕ)) (main : Option (List ℕ)) (ts : List TopForm) (built new : List Top) (first end i : ℕ) (t : TopForm) (o : Top)
+    → i < length ts → t ≡ get_or ts i t → AreBuilt all outside main ts built first i → Builds all outside main first (top_of t) (Some o)
+    → end ≡ first + param_count (top_of t) → new ≡ built ++ o ∷ [] → AreBuilt all outside main ts new end (i + 1)
+built_more all outside main ts built new first end i t o l e a b s n =
+    let fs = functions all outside main 0 (definitions_in (map top_of ts)) in
+    let es = expressions (top_scope all outside) (evaluated_in (map top_of ts)) in
+    let rest = map top_of (drop (i + 1) ts) in
+    let on = goes_on all outside main fs es built first (top_of t) rest o (built_next all outside main ts built first i t l e a) b in
+    subst (λ (new : List Top). Continues all outside main fs es new end rest) (sym n)
+    (subst (λ (end : ℕ). Continues all outside main fs es (built ++ o ∷ []) end rest) (sym s) on)
+
+pub all_built : (h : HeadTree) (all outside : List (List ℕ)) (ts : List TopForm) (built : List Top) (first i : ℕ) → length ts ≤ i → AreBuilt all outside h.main ts built first i
+    → Some (record { head = h; outside = outside; functions = functions_in built; forms = forms_in built }) ≡ draft_in h all outside (map top_of ts)
+all_built h all outside ts built first i l a =
+    let past : map top_of (drop i ts) ≡ [] = ap (map top_of) (drop_all i ts l) in
+    let fs : functions all outside h.main 0 (definitions_in (map top_of ts)) ≡ Some (functions_in built) =
+    a.functions ∙ ap (λ rest. ahead (functions_in built) (functions all outside h.main first (definitions_in rest))) past ∙ ap Some (append-nil (functions_in built)) in
+    let es : expressions (top_scope all outside) (evaluated_in (map top_of ts)) ≡ Some (forms_in built) =
+    a.forms ∙ ap (λ rest. ahead_of (forms_in built) (expressions (top_scope all outside) (evaluated_in rest))) past ∙ ahead_all (forms_in built) in
+    sym (ap (λ fs. draft_with h outside fs (expressions (top_scope all outside) (evaluated_in (map top_of ts)))) fs ∙ ap (draft_with h outside (Some (functions_in built))) es)

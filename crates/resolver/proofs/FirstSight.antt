@@ -1,6 +1,6 @@
 -- Names in order of first sight.
 use Rattle.std.proofs.Common.{◌≡◌, ℕ, ◌+◌, ◌<◌, ◌≤◌, Bool, true, false, not, ◌&&◌, ◌||◌, if◌then◌else◌, nat_eq, List, [], ◌∷◌, ◌++◌, map, length, drop, get_or, Option, Some, None, Result, IfOk, refl, sym, ap, subst, ◌∙◌, arith}
-use Rattle.std.proofs.lemmas.List.{drop_more, drop_all}
+use Rattle.std.proofs.lemmas.List.{drop_more}
 use Rattle.std.proofs.lemmas.List.Folds.{list_any-append}
 use Rattle.std.specs.Cmp.Lexicographic.{pointwise, bytes_decides}
 use Rattle.scheme_data.specs.Data.{Plain, Number, Character, Truth, Unspecified, String, Symbol, Listed, Dotted, Vector, Plains, none, more, plain, plain_all}
@@ -11,11 +11,11 @@ use Rattle.name_table.specs.Names.{has_name}
 use Rattle.module_head.specs.declared.head.Import.{Import}
 use Rattle.module_head.specs.Heads.{symbol_of}
 use Rattle.module_head.specs.Trees.{import_tree}
-use Rattle.resolver.specs.declared.definitions.Definition.{Definition}
+use Rattle.resolver.specs.declared.tops.TopForm.{TopForm}
 use Rattle.resolver.specs.Names.{is_special}
-use Rattle.resolver.specs.Drafts.{imported_names, outside_name, outside_in, outside_in_all, outside_in_definitions, with_first}
-use Rattle.resolver.specs.Drafts as plain_definition
-use Rattle.resolver.specs.Parts.{definition_of}
+use Rattle.resolver.specs.Drafts.{Defines, Evaluates, imported_names, outside_name, outside_in, outside_in_all, outside_in_tops, with_first}
+use Rattle.resolver.specs.Drafts as drafts
+use Rattle.resolver.specs.Parts.{top_of, outside_in_top}
 use Rattle.resolver.proofs.Layers.{plain_list}
 use Rattle.resolver.proofs.Lists.{rest_is}
 use Rattle.resolver.proofs.Calls.{rest_of}
@@ -128,21 +128,30 @@ collected_more imported all params old names new ds i d l e h n =
     ∙ ap (λ (d : Datum). with_first names (outside_in imported all params (plain d) ++ rest)) (sym e)
     ∙ with_first_joined names (outside_in imported all params (plain d)) rest ∙ ap (λ names. with_first names rest) (sym n)
 
--- Names in definitions ----------------------------------------------------------------------
+-- Names in top-level forms ------------------------------------------------------------------
 
-abbrev pub AreOutside : List Import → List (List ℕ) → List (List ℕ) → List Definition → ℕ → Type 0
-AreOutside imports all names ds i =
-    with_first [] (outside_in_definitions (imported_names (map import_tree imports)) all (map definition_of ds))
-    ≡ with_first names (outside_in_definitions (imported_names (map import_tree imports)) all (map definition_of (drop i ds)))
+in_tops : (imported all : List (List ℕ)) (t : drafts.TopForm) (ts : List drafts.TopForm)
+    → outside_in_tops imported all (t ∷ ts) ≡ outside_in_top imported all t ++ outside_in_tops imported all ts
+in_tops imported all (Defines d) ts = refl
+in_tops imported all (Evaluates d) ts = refl
 
-pub outside_more : (imports : List Import) (imported all names new : List (List ℕ)) (ds : List Definition) (i : ℕ) (d : Definition) → i < length ds → d ≡ get_or ds i d
-    → AreOutside imports all names ds i → imported ≡ with_first [] (imported_names (map import_tree imports))
-    → new ≡ with_first names (outside_in_all imported all d.params (plain_all d.body.now)) → AreOutside imports all new ds (i + 1)
-outside_more imports imported all names new ds i d l e h t n =
+in_top_same : (xs ys all : List (List ℕ)) → ((name : List ℕ) → has_name xs name ≡ has_name ys name) → (t : drafts.TopForm) → outside_in_top xs all t ≡ outside_in_top ys all t
+in_top_same xs ys all same (Defines d) = outside_all_same xs ys all same d.params d.body
+in_top_same xs ys all same (Evaluates d) = outside_in_same xs ys all same [] d
+
+abbrev pub AreOutside : List Import → List (List ℕ) → List (List ℕ) → List TopForm → ℕ → Type 0
+AreOutside imports all names ts i =
+    with_first [] (outside_in_tops (imported_names (map import_tree imports)) all (map top_of ts))
+    ≡ with_first names (outside_in_tops (imported_names (map import_tree imports)) all (map top_of (drop i ts)))
+
+pub outside_more : (imports : List Import) (imported all names new : List (List ℕ)) (ts : List TopForm) (i : ℕ) (t : TopForm) → i < length ts → t ≡ get_or ts i t
+    → AreOutside imports all names ts i → imported ≡ with_first [] (imported_names (map import_tree imports))
+    → new ≡ with_first names (outside_in_top imported all (top_of t)) → AreOutside imports all new ts (i + 1)
+outside_more imports imported all names new ts i t l e h m n =
     let from = imported_names (map import_tree imports) in
-    let rest = outside_in_definitions from all (map definition_of (drop (i + 1) ds)) in
-    h ∙ ap (λ (ds : List Definition). with_first names (outside_in_definitions from all (map definition_of ds))) (drop_more ds i d l)
-    ∙ ap (λ (d : Definition). with_first names (outside_in_all from all d.params (plain_all d.body.now) ++ rest)) (sym e)
-    ∙ with_first_joined names (outside_in_all from all d.params (plain_all d.body.now)) rest
-    ∙ sym (ap (λ new. with_first new rest)
-    (n ∙ ap (with_first names) (outside_all_same imported from all (λ name. ap (λ t. has_name t name) t ∙ seen_all from name) d.params (plain_all d.body.now))))
+    let rest = outside_in_tops from all (map top_of (drop (i + 1) ts)) in
+    h ∙ ap (λ (ts : List TopForm). with_first names (outside_in_tops from all (map top_of ts))) (drop_more ts i t l)
+    ∙ ap (λ (t : TopForm). with_first names (outside_in_tops from all (top_of t ∷ map top_of (drop (i + 1) ts)))) (sym e)
+    ∙ ap (with_first names) (in_tops from all (top_of t) (map top_of (drop (i + 1) ts)))
+    ∙ with_first_joined names (outside_in_top from all (top_of t)) rest
+    ∙ sym (ap (λ new. with_first new rest) (n ∙ ap (with_first names) (in_top_same imported from all (λ name. ap (λ t. has_name t name) m ∙ seen_all from name) (top_of t))))

@@ -7,9 +7,10 @@ use Rattle.core_tree.specs.declared.tree.Use.{Use}
 use Rattle.core_tree.specs.Tree.{ModuleTree}
 use Rattle.core_tree.specs.WellFormed.{AreFunctions, IsMain, IsWellFormed}
 use Rattle.core_tree.specs.WellFormed as formed
-use Rattle.resolver.specs.Drafts.{Definition, functions, function_names, has_main, Draft, draft, interface_of, exported, exported_rows}
+use Rattle.resolver.specs.Drafts.{count, expressions, Definition, functions, top_scope, function_names, has_main, Draft, draft, interface_of, exported, exported_rows}
 use Rattle.resolver.specs.Elaboration.{AreSpelled, uses, import_item, module_with, completed, elaborated}
 use Rattle.resolver.proofs.FormedParts.{Holds, at_value, same_distinct}
+use Rattle.resolver.proofs.FormedExpressions.{AreArguments, expressions_formed}
 use Rattle.resolver.proofs.FormedDrafts.{AreOf, functions_formed, functions_of, names_of, take_as_many, IsDraft, draft_formed}
 use Rattle.resolver.proofs.FormedRows.{export_rows, exports_there}
 use Rattle.resolver.proofs.FormedUses.{items_formed, AreTaken, uses_taken, uses_formed}
@@ -21,7 +22,7 @@ main_there ds m (Some f) h t = sym (take_as_many ds m.functions h 1 f) ∙ t
 with_uses : (d : Draft) (o : Option (List Use)) → IsDraft d → Holds (AreTaken d.head.imports d.outside) o → Holds IsWellFormed (module_with d o)
 with_uses d None p t = tt
 with_uses d (Some us) p t =
-    let m : ModuleTree = record { name = d.head.name; imports = map import_item d.head.imports; functions = d.functions; uses = us; exports = exported_rows d.head; main = d.head.main } in
+    let m : ModuleTree = record { name = d.head.name; imports = map import_item d.head.imports; functions = d.functions; forms = d.forms; uses = us; exports = exported_rows d.head; main = d.head.main } in
     let all : List (List ℕ) = function_names p.source in
     let are : AreOf p.source d.functions = at_value (AreOf p.source) (functions all d.outside d.head.main 0 p.source) d.functions p.built (functions_of all d.outside d.head.main 0 p.source) in
     let same : map (λ f. f.name) d.functions ≡ all = names_of p.source d.functions are in
@@ -32,6 +33,9 @@ with_uses d (Some us) p t =
       functions =
           at_value (AreFunctions m) (functions all d.outside d.head.main 0 p.source) d.functions p.built
           (functions_formed all d.outside d.head.main m many t.called 0 p.source p.formed);
+      forms =
+          (at_value (AreArguments m [] (count p.evaluated)) (expressions (top_scope all d.outside) p.evaluated) d.forms p.forms
+          (expressions_formed (top_scope all d.outside) m many t.called p.evaluated p.proper)).each;
       distinct = ap formed.are_distinct same ∙ sym (same_distinct all) ∙ p.distinct;
       uses = uses_formed m d.head.imports us refl p.head.foreign t.given;
       once = t.once;

@@ -7,11 +7,11 @@ use Rattle.scheme_data.specs.Symbols.{IsName}
 use Rattle.name_table.specs.Names.{has_name}
 use Rattle.module_head.specs.Heads.{HeadTree, is_word, symbol_of, says, are_distinct, head_of}
 use Rattle.module_head.proofs.Exported.{added}
-use Rattle.core_tree.specs.Tree.{Tree, FunctionTree, ModuleTree, function_named, found_use}
+use Rattle.core_tree.specs.Tree.{Tree, Trees, FunctionTree, ModuleTree, function_named, found_use}
 use Rattle.core_tree.specs.WellFormed.{IsFound, IsBody, IsFunction, AreFunctions}
 use Rattle.core_tree.specs.WellFormed as formed
 use Rattle.resolver.specs.Names.{is_primitive_name, is_defined_name}
-use Rattle.resolver.specs.Drafts.{Scope, body, Definition, names, named, prototype, definition, onto_definitions, definitions, variables, defined, onto_functions, scope_of, functions, function_names, imported_names, outside_in_definitions, with_first, outside_of, definition_named, takes_as_many, is_there, has_main, agrees, Draft, draft_with, draft_of, draft}
+use Rattle.resolver.specs.Drafts.{Scope, expressions, body, Definition, names, named, prototype, definition, TopForm, Defines, Evaluates, begins_definition, defining, top_form, onto_tops, tops, definitions_in, evaluated_in, variables, defined, onto_functions, scope_of, functions, top_scope, function_names, imported_names, outside_in_tops, with_first, outside_of, definition_named, takes_as_many, is_there, has_main, agrees, Draft, draft_with, draft_in, draft_of, draft}
 use Rattle.resolver.proofs.FormedParts.{Holds, where_true}
 use Rattle.resolver.proofs.FormedHeads.{symbol_named, IsRight, head_formed}
 use Rattle.resolver.proofs.FormedExpressions.{body_formed}
@@ -58,14 +58,44 @@ definition_formed (Listed (more w none)) h = tt
 definition_formed (Listed (more w (more d ds))) h =
     where_true IsDefinition (says (symbol_of w) (codes "define")) (prototype d ds) (prototype_formed d ds h.1.0 h.1.1)
 
-onto_definitions_formed : (o : Option Definition) (ds : Option (List Definition)) → Holds IsDefinition o → Holds AreDefinitions ds → Holds AreDefinitions (onto_definitions o ds)
-onto_definitions_formed None ds h k = tt
-onto_definitions_formed (Some d) None h k = tt
-onto_definitions_formed (Some d) (Some ds) h k = (h, k)
+-- a definition, or a proper datum
+abbrev IsTop : TopForm → Type 0
+IsTop (Defines d) = IsDefinition d
+IsTop (Evaluates d) = IsProper d
 
-definitions_formed : (ds : Plains) → AreProper ds → Holds AreDefinitions (definitions ds)
-definitions_formed none h = tt
-definitions_formed (more d ds) h = onto_definitions_formed (definition d) (definitions ds) (definition_formed d h.0) (definitions_formed ds h.1)
+abbrev AreTops : List TopForm → Type 0
+AreTops [] = Unit {0}
+AreTops (t ∷ ts) = IsTop t × AreTops ts
+
+defining_formed : (o : Option Definition) → Holds IsDefinition o → Holds IsTop (defining o)
+defining_formed None h = tt
+defining_formed (Some d) h = h
+
+top_formed : (d : Plain) → IsProper d → Holds IsTop (top_form d)
+top_formed d h = go (begins_definition d)
+  where
+    go : (b : Bool) → Holds IsTop (if b then defining (definition d) else Some (Evaluates d))
+    go true = defining_formed (definition d) (definition_formed d h)
+    go false = h
+
+onto_tops_formed : (o : Option TopForm) (ts : Option (List TopForm)) → Holds IsTop o → Holds AreTops ts → Holds AreTops (onto_tops o ts)
+onto_tops_formed None ts h k = tt
+onto_tops_formed (Some t) None h k = tt
+onto_tops_formed (Some t) (Some ts) h k = (h, k)
+
+tops_formed : (ds : Plains) → AreProper ds → Holds AreTops (tops ds)
+tops_formed none h = tt
+tops_formed (more d ds) h = onto_tops_formed (top_form d) (tops ds) (top_formed d h.0) (tops_formed ds h.1)
+
+definitions_formed : (ts : List TopForm) → AreTops ts → AreDefinitions (definitions_in ts)
+definitions_formed [] h = tt
+definitions_formed (Defines d ∷ ts) h = (h.0, definitions_formed ts h.1)
+definitions_formed (Evaluates d ∷ ts) h = definitions_formed ts h.1
+
+evaluated_formed : (ts : List TopForm) → AreTops ts → AreProper (evaluated_in ts)
+evaluated_formed [] h = tt
+evaluated_formed (Defines d ∷ ts) h = evaluated_formed ts h.1
+evaluated_formed (Evaluates d ∷ ts) h = (h.0, evaluated_formed ts h.1)
 
 -- Functions ---------------------------------------------------------------------------------
 
@@ -149,7 +179,7 @@ first_distinct (x ∷ xs) seen d = first_distinct xs (if has_name seen x then se
     go true e = d
     go false e = added seen x d e
 
--- the definitions of a draft, and what agrees with its head
+-- the definitions and the expressions of a draft, and what agrees with its head
 pub record IsDraft (d : Draft) : Type 0 where
   pub head : IsRight d.head
   pub outside : are_distinct d.outside ≡ true
@@ -159,36 +189,49 @@ pub record IsDraft (d : Draft) : Type 0 where
   pub exported : list_all (is_there source) d.head.exports ≡ true
   pub main : has_main d.head.main source ≡ true
   pub built : functions (function_names source) d.outside d.head.main 0 source ≡ Some d.functions
+  pub evaluated : Plains
+  pub proper : AreProper evaluated
+  pub forms : expressions (top_scope (function_names source) d.outside) evaluated ≡ Some d.forms
 
-draft_with_formed : (h : HeadTree) (ds : List Definition) (o : Option (List FunctionTree)) → functions (function_names ds) (outside_of h ds) h.main 0 ds ≡ o
-    → IsRight h → AreDefinitions ds → agrees h ds ≡ true → Holds IsDraft (draft_with h (outside_of h ds) o)
-draft_with_formed h ds None e p q a = tt
-draft_with_formed h ds (Some fs) e p q a =
+draft_with_formed : (h : HeadTree) (ts : List TopForm) (fs : Option (List FunctionTree)) (es : Option Trees)
+    → functions (function_names (definitions_in ts)) (outside_of h ts) h.main 0 (definitions_in ts) ≡ fs
+    → expressions (top_scope (function_names (definitions_in ts)) (outside_of h ts)) (evaluated_in ts) ≡ es
+    → IsRight h → AreTops ts → agrees h (definitions_in ts) ≡ true → Holds IsDraft (draft_with h (outside_of h ts) fs es)
+draft_with_formed h ts None es e f p q a = tt
+draft_with_formed h ts (Some fs) None e f p q a = tt
+draft_with_formed h ts (Some fs) (Some es) e f p q a =
+    let ds : List Definition = definitions_in ts in
     let parts = and_parts (not (list_any is_primitive_name (imported_names h.imports)) && are_distinct (function_names ds)) (list_all (is_there ds) h.exports && has_main h.main ds) a in
     let first = and_parts (not (list_any is_primitive_name (imported_names h.imports))) (are_distinct (function_names ds)) parts.0 in
     let last = and_parts (list_all (is_there ds) h.exports) (has_main h.main ds) parts.1 in
     record {
       head = p;
-      outside = first_distinct (outside_in_definitions (imported_names h.imports) (function_names ds) ds) [] refl;
+      outside = first_distinct (outside_in_tops (imported_names h.imports) (function_names ds) ts) [] refl;
       source = ds;
-      formed = q;
+      formed = definitions_formed ts q;
       distinct = first.1;
       exported = last.0;
       main = last.1;
       built = e;
+      evaluated = evaluated_in ts;
+      proper = evaluated_formed ts q;
+      forms = f;
     }
 
-draft_of_formed : (h : Option HeadTree) (ds : Option (List Definition)) → Holds IsRight h → Holds AreDefinitions ds → Holds IsDraft (draft_of h ds)
-draft_of_formed None ds p q = tt
+draft_of_formed : (h : Option HeadTree) (ts : Option (List TopForm)) → Holds IsRight h → Holds AreTops ts → Holds IsDraft (draft_of h ts)
+draft_of_formed None ts p q = tt
 draft_of_formed (Some h) None p q = tt
-draft_of_formed (Some h) (Some ds) p q = go (agrees h ds) refl
+draft_of_formed (Some h) (Some ts) p q = go (agrees h (definitions_in ts)) refl
   where
-    go : (b : Bool) → agrees h ds ≡ b
-        → Holds IsDraft (if b then draft_with h (outside_of h ds) (functions (function_names ds) (outside_of h ds) h.main 0 ds) else None)
-    go true e = draft_with_formed h ds (functions (function_names ds) (outside_of h ds) h.main 0 ds) refl p q e
+    all : List (List ℕ)
+    all = function_names (definitions_in ts)
+
+    go : (b : Bool) → agrees h (definitions_in ts) ≡ b → Holds IsDraft (if b then draft_in h all (outside_of h ts) ts else None)
+    go true e =
+        draft_with_formed h ts (functions all (outside_of h ts) h.main 0 (definitions_in ts)) (expressions (top_scope all (outside_of h ts)) (evaluated_in ts)) refl refl p q e
     go false e = tt
 
 pub draft_formed : (ds : Plains) → AreProper ds → Holds IsDraft (draft ds)
 unfolding draft
 draft_formed none h = tt
-draft_formed (more d ds) h = draft_of_formed (head_of d) (definitions ds) (head_formed d h.0) (definitions_formed ds h.1)
+draft_formed (more d ds) h = draft_of_formed (head_of d) (tops ds) (head_formed d h.0) (tops_formed ds h.1)

@@ -1,4 +1,4 @@
--- The expressions of a function are formed as its module asks.
+-- Expressions are formed as their module asks.
 use Rattle.std.proofs.Common.{◌≡◌, ℕ, zero, suc, ◌+◌, ◌<◌, Bool, true, false, ◌||◌, if◌then◌else◌, nat_eq, codes, List, [], ◌∷◌, length, slice_get, Option, Some, None, refl, ap, ◌∙◌, arith}
 use Rattle.std.specs.List.{list_any}
 use Rattle.std.proofs.lemmas.Bool.{or_right}
@@ -69,7 +69,8 @@ unless_formed m n None o h = h
 
 -- Forms -------------------------------------------------------------------------------------
 
-record AreArguments (m : ModuleTree) (ps : List VarId) (n : ℕ) (ts : Trees) : Type 0 where
+-- so many expressions
+pub record AreArguments (m : ModuleTree) (ps : List VarId) (n : ℕ) (ts : Trees) : Type 0 where
   pub many : tree.count ts ≡ n
   pub each : AreExpressions m ps ts
 
@@ -151,7 +152,7 @@ module _ (s : Scope) (m : ModuleTree) (same : length m.functions ≡ length s.fu
     expression_formed (Listed (more d ds)) h =
         applied_formed m params (count ds) (operator s (count ds) (symbol_of d)) (expressions s ds) (operator_formed (count ds) (symbol_of d)) (expressions_formed ds h.1)
 
-    expressions_formed : (ds : Plains) → AreProper ds → Holds (AreArguments m params (count ds)) (expressions s ds)
+    pub expressions_formed : (ds : Plains) → AreProper ds → Holds (AreArguments m params (count ds)) (expressions s ds)
     expressions_formed none h = record { many = refl; each = tt }
     expressions_formed (more d ds) h = onto_formed m params (count ds) (expression s d) (expressions s ds) (expression_formed d h.0) (expressions_formed ds h.1)
 

@@ -1,16 +1,14 @@
 -- Data and nodes, one layer at a time.
-use Rattle.std.proofs.Common.{◌≡◌, ◌≢◌, List, [], ◌∷◌, map, length, Some, None, refl, sym, ap, ◌∙◌, arith, rules}
+use Rattle.std.proofs.Common.{◌≡◌, List, [], ◌∷◌, map, Some, refl, sym, ap, ◌∙◌, rules}
 use Rattle.scheme_data.specs.Data.{Plain, Number, Character, Truth, Unspecified, String, Symbol, Listed, Dotted, Vector, Plains, more, plains, plain, plain_all}
 use Rattle.scheme_data.specs.declared.datum.Place.{Place}
 use Rattle.scheme_data.specs.declared.datum.Datum.{Datum}
 use Rattle.scheme_data.specs.declared.datum.Datum as data_of
 use Rattle.scheme_data.specs.declared.datum.Datum.TheVariants as datum
-use Rattle.prim_table.specs.declared.primitives.Primitive.{Primitive as Builtin}
 use Rattle.core_tree.specs.declared.tree.Node.{Node}
 use Rattle.core_tree.specs.declared.tree.Node as node_of
 use Rattle.core_tree.specs.declared.tree.Node.TheVariants as node
-use Rattle.core_tree.specs.declared.tree.GlobalRef.{GlobalRef}
-use Rattle.core_tree.specs.Tree.{If, Sequence, Call, Primitive, trees, tree}
+use Rattle.core_tree.specs.Tree.{If, Sequence, trees, tree}
 use Rattle.module_head.specs.Parts.{parts_of}
 
 plains_all : (ds : List Datum) → plains (map plain ds) ≡ plain_all ds

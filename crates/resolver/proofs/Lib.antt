@@ -14,5 +14,6 @@ pub mod Layers
 pub mod Lists
 pub mod Numbers
 pub mod Results
+pub mod Sources
 pub mod Tables
 pub mod UseLists

@@ -1,8 +1,8 @@
 -- A list that is read item by item: some items, and then the rest, where there is one.
 use Rattle.std.proofs.Common.{◌≡◌, ℕ, ◌-◌, List, [], ◌∷◌, ◌++◌, length, drop, take, Option, Some, None, refl, sym, ap, append_assoc, arith}
-use Rattle.std.proofs.lemmas.List.{append-nil, take_all, length-drop}
+use Rattle.std.proofs.lemmas.List.{take_all, length-drop}
 use Rattle.core_tree.specs.Tree.{FunctionTree}
-use Rattle.resolver.specs.Drafts.{Definition, onto_definitions, onto_functions}
+use Rattle.resolver.specs.Drafts.{TopForm, onto_tops, onto_functions}
 
 -- `&xs[i..]`
 pub rest_is : {A : Type 0} (i : ℕ) (xs : List A) → take (length xs - i) (drop i xs) ≡ drop i xs
@@ -12,9 +12,9 @@ abbrev pub ahead : {A : Type 0} → List A → Option (List A) → Option (List 
 ahead xs None = None
 ahead xs (Some ys) = Some (xs ++ ys)
 
-pub definition_more : (ps : List Definition) (p : Definition) (o : Option (List Definition)) → ahead ps (onto_definitions (Some p) o) ≡ ahead (ps ++ p ∷ []) o
-definition_more ps p None = refl
-definition_more ps p (Some qs) = ap Some (sym (append_assoc ps (p ∷ []) qs))
+pub top_more : (ts : List TopForm) (t : TopForm) (o : Option (List TopForm)) → ahead ts (onto_tops (Some t) o) ≡ ahead (ts ++ t ∷ []) o
+top_more ts t None = refl
+top_more ts t (Some us) = ap Some (sym (append_assoc ts (t ∷ []) us))
 
 pub function_more : (fs : List FunctionTree) (f : FunctionTree) (o : Option (List FunctionTree)) → ahead fs (onto_functions (Some f) o) ≡ ahead (fs ++ f ∷ []) o
 function_more fs f None = refl

@@ -1,16 +1,18 @@
 -- Tables of names of which none stands twice.
-use Rattle.std.proofs.Common.{◌≡◌, ℕ, ◌+◌, ◌<◌, ◌≤◌, Bool, true, false, not, ◌&&◌, ◌||◌, if◌then◌else◌, List, [], ◌∷◌, ◌++◌, map, length, drop, get_or, Option, Some, None, refl, sym, ap, ◌∙◌, append_assoc}
-use Rattle.std.proofs.lemmas.List.{append-nil, drop_more, drop_all}
+use Rattle.std.proofs.Common.{◌≡◌, ℕ, ◌+◌, ◌<◌, Bool, true, false, not, ◌&&◌, ◌||◌, if◌then◌else◌, List, [], ◌∷◌, ◌++◌, map, length, drop, get_or, Option, Some, None, refl, sym, ap, ◌∙◌, append_assoc}
+use Rattle.std.proofs.lemmas.List.{drop_more}
 use Rattle.std.proofs.lemmas.List.Folds.{list_any-append}
 use Rattle.std.specs.List.{list_any}
 use Rattle.std.specs.Cmp.Lexicographic.{nat_list_eq_equiv}
 use Rattle.scheme_data.specs.Data.{plain, plain_all}
 use Rattle.scheme_data.specs.declared.datum.Datum.{Datum}
 use Rattle.resolver.specs.declared.definitions.Definition.{Definition}
+use Rattle.resolver.specs.declared.tops.TopForm.{TopForm}
+use Rattle.resolver.specs.declared.tops.TopForm.TheVariants.{Define}
 use Rattle.module_head.specs.Heads.{is_word, symbol_of, are_distinct}
 use Rattle.resolver.specs.Names.{is_bound_name}
-use Rattle.resolver.specs.Drafts.{onto_names, names, function_names}
-use Rattle.resolver.specs.Parts.{distinct, definition_of}
+use Rattle.resolver.specs.Drafts.{onto_names, names, definitions_in, function_names}
+use Rattle.resolver.specs.Parts.{distinct, top_of}
 use Rattle.resolver.proofs.Lists.{ahead}
 
 and_false : (b : Bool) → (b && false) ≡ false
@@ -133,27 +135,34 @@ read_more ds xs ys i d x l e h n b t y = record {
 
 -- Functions ---------------------------------------------------------------------------------
 
+abbrev names_in : List TopForm → List (List ℕ)
+names_in ts = function_names (definitions_in (map top_of ts))
+
 -- the names of these functions are listed, and none of them stands twice
-pub record IsListed (ds : List Definition) (xs : List (List ℕ)) (i : ℕ) : Type 0 where
+pub record IsListed (ts : List TopForm) (xs : List (List ℕ)) (i : ℕ) : Type 0 where
   pub none_twice : are_distinct xs ≡ true
-  pub so_far : function_names (map definition_of ds) ≡ xs ++ function_names (map definition_of (drop i ds))
+  pub so_far : names_in ts ≡ xs ++ names_in (drop i ts)
 
-listed_next : (ds : List Definition) (xs : List (List ℕ)) (i : ℕ) (d : Definition) → i < length ds → d ≡ get_or ds i d → IsListed ds xs i
-    → function_names (map definition_of ds) ≡ xs ++ d.name.now ∷ function_names (map definition_of (drop (i + 1) ds))
-listed_next ds xs i d l e h =
-    h.so_far ∙ ap (λ (ds : List Definition). xs ++ function_names (map definition_of ds)) (drop_more ds i d l)
-    ∙ ap (λ (d : Definition). xs ++ d.name.now ∷ function_names (map definition_of (drop (i + 1) ds))) (sym e)
+listed_next : (ts : List TopForm) (xs : List (List ℕ)) (i : ℕ) (t : TopForm) → i < length ts → t ≡ get_or ts i t → IsListed ts xs i
+    → names_in ts ≡ xs ++ function_names (definitions_in (top_of t ∷ map top_of (drop (i + 1) ts)))
+listed_next ts xs i t l e h =
+    h.so_far ∙ ap (λ (ts : List TopForm). xs ++ names_in ts) (drop_more ts i t l)
+    ∙ ap (λ (t : TopForm). xs ++ function_names (definitions_in (top_of t ∷ map top_of (drop (i + 1) ts)))) (sym e)
 
-pub listed_twice : (ds : List Definition) (xs : List (List ℕ)) (i : ℕ) (d : Definition) → i < length ds → d ≡ get_or ds i d → IsListed ds xs i
-    → list_any (is_word d.name.now) xs ≡ true → None ≡ distinct (Some (function_names (map definition_of ds)))
-listed_twice ds xs i d l e h t =
-    let rest = function_names (map definition_of (drop (i + 1) ds)) in
-    sym (ap (λ xs. distinct (Some xs)) (listed_next ds xs i d l e h) ∙ distinct_where (xs ++ d.name.now ∷ rest) false (twice xs d.name.now rest t))
+listed_here : (ts : List TopForm) (xs : List (List ℕ)) (i : ℕ) (t : TopForm) (d : Definition) → i < length ts → t ≡ get_or ts i t → IsListed ts xs i → t ≡ Define d
+    → names_in ts ≡ xs ++ d.name.now ∷ names_in (drop (i + 1) ts)
+listed_here ts xs i t d l e h n =
+    listed_next ts xs i t l e h ∙ ap (λ (t : TopForm). xs ++ function_names (definitions_in (top_of t ∷ map top_of (drop (i + 1) ts)))) n
 
-pub listed_more : (ds : List Definition) (xs ys : List (List ℕ)) (i : ℕ) (d : Definition) → i < length ds → d ≡ get_or ds i d → IsListed ds xs i
-    → list_any (is_word d.name.now) xs ≡ false → ys ≡ xs ++ d.name.now ∷ [] → IsListed ds ys (i + 1)
-listed_more ds xs ys i d l e h t y = record {
-  none_twice = ap are_distinct y ∙ added xs d.name.now h.none_twice t;
-  so_far = listed_next ds xs i d l e h ∙ sym (append_assoc xs (d.name.now ∷ []) (function_names (map definition_of (drop (i + 1) ds))))
-      ∙ ap (λ ys. ys ++ function_names (map definition_of (drop (i + 1) ds))) (sym y);
+pub listed_twice : (ts : List TopForm) (xs : List (List ℕ)) (i : ℕ) (t : TopForm) (d : Definition) → i < length ts → t ≡ get_or ts i t → IsListed ts xs i → t ≡ Define d
+    → list_any (is_word d.name.now) xs ≡ true → None ≡ distinct (Some (names_in ts))
+listed_twice ts xs i t d l e h n w =
+    let rest = names_in (drop (i + 1) ts) in
+    sym (ap (λ xs. distinct (Some xs)) (listed_here ts xs i t d l e h n) ∙ distinct_where (xs ++ d.name.now ∷ rest) false (twice xs d.name.now rest w))
+
+pub listed_more : (ts : List TopForm) (xs ys : List (List ℕ)) (i : ℕ) (t : TopForm) (d : Definition) → i < length ts → t ≡ get_or ts i t → IsListed ts xs i → t ≡ Define d
+    → list_any (is_word d.name.now) xs ≡ false → ys ≡ xs ++ d.name.now ∷ [] → IsListed ts ys (i + 1)
+listed_more ts xs ys i t d l e h n w y = record {
+  none_twice = ap are_distinct y ∙ added xs d.name.now h.none_twice w;
+  so_far = listed_here ts xs i t d l e h n ∙ sym (append_assoc xs (d.name.now ∷ []) (names_in (drop (i + 1) ts))) ∙ ap (λ ys. ys ++ names_in (drop (i + 1) ts)) (sym y);
 }

@@ -1,4 +1,4 @@
--- What a source says by itself: its head and its definitions, where each function of another module stands for its place among those that are called, in order of first use.
+-- What a source says by itself: its head, its definitions and its other forms, where each function of another module stands for its place among those that are called, in order of first use.
 use Rattle.std.specs.Prelude.{ℕ, suc, ◌+◌, List, [], ◌∷◌, ◌++◌, map, length, codes, nat_eq, Bool, true, false, not, ◌&&◌, if◌then◌else◌, Option, Some, None}
 use Rattle.std.specs.List.{list_all, list_any}
 use Rattle.scheme_data.specs.Data.{Plain, Number, Truth, Symbol, Listed, Plains, none, more}
@@ -149,14 +149,42 @@ abbrev pub definition : Plain → Option Definition
 definition (Listed (more word (more d ds))) = if says (symbol_of word) (codes "define") then prototype d ds else None
 definition _ = None
 
-abbrev pub onto_definitions : Option Definition → Option (List Definition) → Option (List Definition)
-onto_definitions None ds = None
-onto_definitions (Some d) None = None
-onto_definitions (Some d) (Some ds) = Some (d ∷ ds)
+-- a top-level form: a definition, or an expression
+pub data TopForm : Type 0 where
+  Defines : Definition → TopForm
+  Evaluates : Plain → TopForm
 
-abbrev pub definitions : Plains → Option (List Definition)
-definitions none = Some []
-definitions (more d ds) = onto_definitions (definition d) (definitions ds)
+-- a form that begins with the word `define` is a definition, and all others are expressions
+abbrev pub begins_definition : Plain → Bool
+begins_definition (Listed (more word ds)) = says (symbol_of word) (codes "define")
+begins_definition _ = false
+
+abbrev pub defining : Option Definition → Option TopForm
+defining None = None
+defining (Some d) = Some (Defines d)
+
+abbrev pub top_form : Plain → Option TopForm
+top_form d = if begins_definition d then defining (definition d) else Some (Evaluates d)
+
+abbrev pub onto_tops : Option TopForm → Option (List TopForm) → Option (List TopForm)
+onto_tops None ts = None
+onto_tops (Some t) None = None
+onto_tops (Some t) (Some ts) = Some (t ∷ ts)
+
+-- the top-level forms, in source order
+abbrev pub tops : Plains → Option (List TopForm)
+tops none = Some []
+tops (more d ds) = onto_tops (top_form d) (tops ds)
+
+abbrev pub definitions_in : List TopForm → List Definition
+definitions_in [] = []
+definitions_in (Defines d ∷ ts) = d ∷ definitions_in ts
+definitions_in (Evaluates d ∷ ts) = definitions_in ts
+
+abbrev pub evaluated_in : List TopForm → Plains
+evaluated_in [] = none
+evaluated_in (Defines d ∷ ts) = evaluated_in ts
+evaluated_in (Evaluates d ∷ ts) = more d (evaluated_in ts)
 
 -- variables are numbered through the module, in source order
 abbrev pub variables : ℕ → List (List ℕ) → List VarId
@@ -180,6 +208,10 @@ module _ (all outside : List (List ℕ)) (main : Option (List ℕ)) where
   abbrev pub functions : ℕ → List Definition → Option (List FunctionTree)
   functions first [] = Some []
   functions first (d ∷ ds) = onto_functions (defined first d (body (scope_of first d) d.body)) (functions (first + length d.params) ds)
+
+-- what the expressions among the top-level forms see: no parameters
+abbrev pub top_scope : List (List ℕ) → List (List ℕ) → Scope
+top_scope all outside = record { functions = all; outside = outside; params = []; first = 0; in_main = false }
 
 abbrev pub function_names : List Definition → List (List ℕ)
 function_names ds = map (λ d. d.name) ds
@@ -210,9 +242,11 @@ module _ (imported all params : List (List ℕ)) where
     outside_in_all none = []
     outside_in_all (more d ds) = outside_in d ++ outside_in_all ds
 
-abbrev pub outside_in_definitions : List (List ℕ) → List (List ℕ) → List Definition → List (List ℕ)
-outside_in_definitions imported all [] = []
-outside_in_definitions imported all (d ∷ ds) = outside_in_all imported all d.params d.body ++ outside_in_definitions imported all ds
+-- and as they stand in the top-level forms, in source order
+abbrev pub outside_in_tops : List (List ℕ) → List (List ℕ) → List TopForm → List (List ℕ)
+outside_in_tops imported all [] = []
+outside_in_tops imported all (Defines d ∷ ts) = outside_in_all imported all d.params d.body ++ outside_in_tops imported all ts
+outside_in_tops imported all (Evaluates d ∷ ts) = outside_in imported all [] d ++ outside_in_tops imported all ts
 
 -- each name once, in order of first sight, after those that were seen
 abbrev pub with_first : List (List ℕ) → List (List ℕ) → List (List ℕ)
@@ -220,8 +254,8 @@ with_first seen [] = seen
 with_first seen (x ∷ xs) = with_first (if has_name seen x then seen else seen ++ x ∷ []) xs
 
 -- the names of other modules' functions that are called, in order of first use
-abbrev pub outside_of : HeadTree → List Definition → List (List ℕ)
-outside_of h ds = with_first [] (outside_in_definitions (imported_names h.imports) (function_names ds) ds)
+abbrev pub outside_of : HeadTree → List TopForm → List (List ℕ)
+outside_of h ts = with_first [] (outside_in_tops (imported_names h.imports) (function_names (definitions_in ts)) ts)
 
 -- Sources -----------------------------------------------------------------------------------
 
@@ -250,18 +284,23 @@ pub record Draft : Type 0 where
   pub head : HeadTree
   pub outside : List (List ℕ)
   pub functions : List FunctionTree
+  pub forms : Trees
 
-abbrev pub draft_with : HeadTree → List (List ℕ) → Option (List FunctionTree) → Option Draft
-draft_with h outside None = None
-draft_with h outside (Some fs) = Some (record { head = h; outside = outside; functions = fs })
+abbrev pub draft_with : HeadTree → List (List ℕ) → Option (List FunctionTree) → Option Trees → Option Draft
+draft_with h outside (Some fs) (Some ts) = Some (record { head = h; outside = outside; functions = fs; forms = ts })
+draft_with h outside _ _ = None
 
-abbrev pub draft_of : Option HeadTree → Option (List Definition) → Option Draft
-draft_of (Some h) (Some ds) = if agrees h ds then draft_with h (outside_of h ds) (functions (function_names ds) (outside_of h ds) h.main 0 ds) else None
+-- in a module with these functions, which calls these of other modules
+abbrev pub draft_in : HeadTree → List (List ℕ) → List (List ℕ) → List TopForm → Option Draft
+draft_in h all outside ts = draft_with h outside (functions all outside h.main 0 (definitions_in ts)) (expressions (top_scope all outside) (evaluated_in ts))
+
+abbrev pub draft_of : Option HeadTree → Option (List TopForm) → Option Draft
+draft_of (Some h) (Some ts) = if agrees h (definitions_in ts) then draft_in h (function_names (definitions_in ts)) (outside_of h ts) ts else None
 draft_of _ _ = None
 
 unfoldable pub draft : Plains → Option Draft
 draft none = None
-draft (more d ds) = draft_of (head_of d) (definitions ds)
+draft (more d ds) = draft_of (head_of d) (tops ds)
 
 -- Exports -----------------------------------------------------------------------------------
 

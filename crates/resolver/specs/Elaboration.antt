@@ -99,6 +99,7 @@ module_with d (Some us) =
       name = d.head.name;
       imports = map import_item d.head.imports;
       functions = d.functions;
+      forms = d.forms;
       uses = us;
       exports = exported_rows d.head;
       main = d.head.main;

@@ -5,8 +5,12 @@ use Rattle.scheme_data.specs.Data.{Plain, Number, Symbol, Listed, Plains, none, 
 use Rattle.iface_text.specs.declared.interface.Row.{Row}
 use Rattle.iface_text.specs.Format.{IfaceTree}
 use Rattle.iface_text.specs.Lines.{untyped_row}
+use Rattle.core_tree.specs.declared.tree.Const.TheVariants.{Int}
+use Rattle.core_tree.specs.declared.tree.GlobalRef.TheVariants.{Used}
 use Rattle.core_tree.specs.declared.tree.Use.{Use}
 use Rattle.core_tree.specs.declared.tree.Use.TheVariants.{From, Need}
+use Rattle.core_tree.specs.Tree.{Constant, Call}
+use Rattle.core_tree.specs.Tree as tree
 use Rattle.resolver.specs.Drafts.{draft, exported}
 use Rattle.resolver.specs.Elaboration.{elaborated}
 
@@ -88,3 +92,32 @@ the_first_interface_of_a_module_counts = refl
 a_later_interface_is_not_asked : elaborated (interface [] ∷ interface (row_f ∷ row_g ∷ []) ∷ []) (source_b (Number (pos 1))) ≡ None
 unfolding draft
 a_later_interface_is_not_asked = refl
+
+-- `(module b (import (f g a)))`, `(g 1)`, `(define (go x) (f x))`, and 7
+abbrev pub source_with_forms : Plains
+source_with_forms =
+    all
+    (list (word (codes "module") ∷ word (codes "b") ∷ list (word (codes "import") ∷ list (word (codes "f") ∷ word (codes "g") ∷ word (codes "a") ∷ []) ∷ []) ∷ [])
+    ∷ call (codes "g") (Number (pos 1))
+    ∷ define (codes "go") (call (codes "f") (word (codes "x")))
+    ∷ Number (pos 7)
+    ∷ [])
+
+forms_stand_in_source_order :
+    option_map (λ m. m.forms) (elaborated (interface (row_f ∷ row_g ∷ []) ∷ []) source_with_forms)
+    ≡ Some (tree.more (Call (Used 0) (tree.more (Constant (Int (pos 1))) tree.none)) (tree.more (Constant (Int (pos 7))) tree.none))
+unfolding draft
+forms_stand_in_source_order = refl
+
+forms_use_names_before_later_definitions :
+    option_map (λ m. m.uses) (elaborated (interface (row_f ∷ row_g ∷ []) ∷ []) source_with_forms) ≡ Some (From (codes "a") row_g ∷ From (codes "a") row_f ∷ [])
+unfolding draft
+forms_use_names_before_later_definitions = refl
+
+-- a parameter is no variable of a form
+abbrev pub source_with_a_variable : Plains
+source_with_a_variable = all (list (word (codes "module") ∷ word (codes "b") ∷ []) ∷ define (codes "go") (word (codes "x")) ∷ word (codes "x") ∷ [])
+
+a_form_has_no_variable : exported source_with_a_variable ≡ None
+unfolding draft
+a_form_has_no_variable = refl

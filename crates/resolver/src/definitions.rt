@@ -1,15 +1,15 @@
-// The definitions of a module, and the names of its functions.
+// Definitions of functions.
 ghost use Rattle.std.specs.Prelude.{◌≡◌, [], ◌∷◌, ◌++◌, not, if◌then◌else◌, IfOk, Some, map};
 ghost use Rattle.std.specs.Option.{option_map};
 ghost use Rattle.scheme_data.specs.Data.{plain, plain_all};
 ghost use Rattle.name_table.specs.Names.{has_name};
-ghost use Rattle.resolver.specs.Drafts.{names, prototype, definition, definitions, function_names};
+ghost use Rattle.resolver.specs.Drafts.{names, prototype, definition};
 ghost use Rattle.resolver.specs.Parts.{distinct, definition_of};
 
 use crate::names::{may_be_bound, may_be_defined};
 use module_head::{is_symbol, parts, symbol};
 use name_table::NameTable;
-use scheme_data::{Datum, List, OutOfMemory, Text};
+use scheme_data::{Datum, OutOfMemory, Text};
 use std::alloc::Global;
 
 /// A function that is defined: its name, its parameters and its body.
@@ -21,7 +21,7 @@ pub struct Definition<'a> {
 }
 
 /// Puts a name at the end of a table, and says whether it did: not where it is there already.
-fn add_name(names: &mut NameTable, name: &Text) -> Result<bool, OutOfMemory>
+pub fn add_name(names: &mut NameTable, name: &Text) -> Result<bool, OutOfMemory>
     ensures added { IfOk result (λ added. added ≡ not (has_name names.old name.now)) }
     ensures ok { IfOk result (λ added. names.new ≡ (if added then names.old ++ name.now ∷ [] else names.old)) }
 {
@@ -74,7 +74,7 @@ fn prototype<'a>(
 }
 
 /// The definition of `(define (g x ...) e e ...)`.
-fn defined<'a>(alloc: Global, d: &'a Datum) -> Result<Option<Definition<'a>>, OutOfMemory>
+pub fn defined<'a>(alloc: Global, d: &'a Datum) -> Result<Option<Definition<'a>>, OutOfMemory>
     ensures { IfOk result (λ p. option_map definition_of p ≡ definition (plain d.now)) }
 {
     let Some(ds) = parts(d) else {
@@ -87,37 +87,4 @@ fn defined<'a>(alloc: Global, d: &'a Datum) -> Result<Option<Definition<'a>>, Ou
         return Ok(None);
     }
     prototype(alloc, first, body)
-}
-
-/// The definitions, in source order; none where another form is among them.
-pub fn definitions<'a>(
-    alloc: Global,
-    ds: &'a [Datum],
-) -> Result<Option<List<Definition<'a>>>, OutOfMemory>
-    ensures { IfOk result (λ ps. option_map (map definition_of) ps ≡ definitions (plain_all ds.now)) }
-{
-    let mut found = List::new(alloc);
-    for d in ds {
-        let Some(p) = defined(alloc, d)? else {
-            return Ok(None);
-        };
-        found.push(p)?;
-    }
-    Ok(Some(found))
-}
-
-/// The names of the functions, in source order; none where one stands twice.
-pub fn function_names(
-    alloc: Global,
-    ds: &[Definition<'_>],
-) -> Result<Option<NameTable>, OutOfMemory>
-    ensures { IfOk result (λ xs. xs ≡ distinct (Some (function_names (map definition_of ds.now)))) }
-{
-    let mut names = NameTable::new(alloc);
-    for d in ds {
-        if !add_name(&mut names, d.name)? {
-            return Ok(None);
-        }
-    }
-    Ok(Some(names))
 }

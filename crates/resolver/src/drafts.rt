@@ -4,19 +4,19 @@ ghost use Rattle.std.specs.Option.{option_map};
 ghost use Rattle.scheme_data.specs.Data.{plain_all};
 ghost use Rattle.module_head.specs.Trees.{head_tree};
 ghost use Rattle.resolver.specs.Drafts.{draft_of, draft};
-ghost use Rattle.resolver.specs.Parts.{definition_of, draft_tree};
+ghost use Rattle.resolver.specs.Parts.{top_of, draft_tree};
 
 use crate::agreement::Defined;
-use crate::definitions::{Definition, definitions, function_names};
 use crate::functions::Functions;
 use crate::outside::outside_names;
+use crate::tops::{TopForm, function_names, param_counts, top_forms};
 use core_tree::Top;
 use module_head::{Head, read_head};
 use name_table::NameTable;
 use scheme_data::{Datum, List, OutOfMemory};
 use std::alloc::Global;
 
-/// What a source says by itself: its head, the names of other modules' functions that it calls, in order of first use, and its functions, in which each of those stands for its place.
+/// What a source says by itself: its head, the names of other modules' functions that it calls, in order of first use, and its top-level forms, in which each of those stands for its place.
 #[derive(Drop)]
 pub(crate) struct Draft {
     pub head: Head,
@@ -24,32 +24,30 @@ pub(crate) struct Draft {
     pub tops: List<Top>,
 }
 
-/// The draft of a head and definitions; none where they don't agree, or a body isn't built.
-fn draft_of(
-    alloc: Global,
-    head: Head,
-    defined: &[Definition<'_>],
-) -> Result<Option<Draft>, OutOfMemory>
-    ensures { IfOk result (λ d. option_map draft_tree d ≡ draft_of (Some (head_tree head)) (Some (map definition_of defined.now))) }
+/// The draft of a head and top-level forms; none where they don't agree, or a body or an expression isn't built.
+fn draft_of(alloc: Global, head: Head, forms: &[TopForm<'_>]) -> Result<Option<Draft>, OutOfMemory>
+    ensures { IfOk result (λ d. option_map draft_tree d ≡ draft_of (Some (head_tree head)) (Some (map top_of forms.now))) }
 {
-    let Some(names) = function_names(alloc, defined)? else {
+    let Some(names) = function_names(alloc, forms)? else {
         return Ok(None);
     };
+    let counts = param_counts(alloc, forms)?;
     let known = Defined {
-        definitions: &*defined,
+        tops: &*forms,
         names: &names,
+        counts: counts.as_slice(),
     };
     if !known.agrees(&head) {
         return Ok(None);
     }
-    let outside = outside_names(alloc, head.imports.as_slice(), &names, defined)?;
+    let outside = outside_names(alloc, head.imports.as_slice(), &names, forms)?;
     let functions = Functions {
         alloc,
         head: &head,
         names: &names,
         outside: &outside,
     };
-    let Some(tops) = functions.all(defined)? else {
+    let Some(tops) = functions.all(forms)? else {
         return Ok(None);
     };
     Ok(Some(Draft {
@@ -70,8 +68,8 @@ pub(crate) fn read_draft(alloc: Global, forms: &[Datum]) -> Result<Option<Draft>
     let Some(head) = read_head(alloc, first)? else {
         return Ok(None);
     };
-    let Some(defined) = definitions(alloc, rest)? else {
+    let Some(tops) = top_forms(alloc, rest)? else {
         return Ok(None);
     };
-    draft_of(alloc, head, defined.as_slice())
+    draft_of(alloc, head, tops.as_slice())
 }

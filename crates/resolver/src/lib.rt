@@ -11,6 +11,7 @@ mod names;
 mod outside;
 mod resolve;
 mod scope;
+mod tops;
 mod uses;
 
 pub use resolve::{exported_interface, resolve_module};

@@ -3,18 +3,18 @@ ghost use Rattle.std.specs.Prelude.{◌≡◌, [], map, IfOk};
 ghost use Rattle.scheme_data.specs.Data.{plain, plain_all};
 ghost use Rattle.module_head.specs.Heads.{symbol_of};
 ghost use Rattle.module_head.specs.Trees.{import_tree};
-ghost use Rattle.resolver.specs.Drafts.{imported_names, is_outside, outside_name, outside_in, outside_in_all, outside_in_definitions, with_first};
-ghost use Rattle.resolver.specs.Parts.{definition_of};
+ghost use Rattle.resolver.specs.Drafts.{imported_names, is_outside, outside_name, outside_in, outside_in_all, outside_in_tops, with_first};
+ghost use Rattle.resolver.specs.Parts.{top_of, outside_in_top};
 
-use crate::definitions::Definition;
 use crate::imports::imported_names;
 use crate::names::names_special_form;
+use crate::tops::TopForm;
 use module_head::{Import, symbol};
 use name_table::NameTable;
 use scheme_data::{Datum, OutOfMemory};
 use std::alloc::Global;
 
-/// What decides which names in a body are of other modules' functions: the names that are imported, the functions of the module, and the function's parameters.
+/// What decides which names in a form are of other modules' functions: the names that are imported, the functions of the module, and the parameters below which it stands.
 #[derive(Clone, Copy)]
 struct Outside<'a> {
     imported: &'a NameTable,
@@ -72,24 +72,49 @@ impl Outside<'_> {
     }
 }
 
-/// The names of other modules' functions that the definitions call, in order of first use, with these imports and these functions of the module.
+/// Puts the names in a top-level form at the end of a table, from left to right, each where it isn't there yet.
+fn collect_top(
+    alloc: Global,
+    imported: &NameTable,
+    functions: &NameTable,
+    top: &TopForm<'_>,
+    names: &mut NameTable,
+) -> Result<(), OutOfMemory>
+    ensures { IfOk result (λ done. names.new ≡ with_first names.old (outside_in_top imported.now functions.now (top_of top.now))) }
+{
+    match top {
+        TopForm::Define(d) => {
+            let outside = Outside {
+                imported,
+                functions,
+                params: &d.params,
+            };
+            outside.collect_all(d.body, names)
+        }
+        TopForm::Evaluate(d) => {
+            let outside = Outside {
+                imported,
+                functions,
+                params: &NameTable::new(alloc),
+            };
+            outside.collect(d, names)
+        }
+    }
+}
+
+/// The names of other modules' functions that the top-level forms call, in order of first use, with these imports and these functions of the module.
 pub fn outside_names(
     alloc: Global,
     imports: &[Import],
     functions: &NameTable,
-    definitions: &[Definition<'_>],
+    tops: &[TopForm<'_>],
 ) -> Result<NameTable, OutOfMemory>
-    ensures { IfOk result (λ names. names ≡ with_first [] (outside_in_definitions (imported_names (map import_tree imports.now)) functions.now (map definition_of definitions.now))) }
+    ensures { IfOk result (λ names. names ≡ with_first [] (outside_in_tops (imported_names (map import_tree imports.now)) functions.now (map top_of tops.now))) }
 {
     let imported = imported_names(alloc, imports)?;
     let mut names = NameTable::new(alloc);
-    for d in definitions {
-        let outside = Outside {
-            imported: &imported,
-            functions,
-            params: &d.params,
-        };
-        outside.collect_all(d.body, &mut names)?;
+    for top in tops {
+        collect_top(alloc, &imported, functions, top, &mut names)?;
     }
     Ok(names)
 }

@@ -1,4 +1,4 @@
-// The expressions of a function's body.
+// The expressions of a module.
 ghost use Rattle.std.specs.Prelude.{◌≡◌, ◌+◌, length, IfOk, Some};
 ghost use Rattle.std.specs.Option.{option_map};
 ghost use Rattle.scheme_data.specs.Data.{plain, plain_all};
@@ -18,7 +18,7 @@ use scheme_data::{Datum, OutOfMemory};
 use sqlite_items::{Boxed, Items};
 use std::alloc::Global;
 
-/// What a function's expressions see: the functions of the module, those of other modules that it calls, the function's parameters, the number of the first of these, and whether it is the main function.
+/// What expressions see: the functions of the module, those of other modules that it calls, the parameters of the function in which they stand, the number of the first of these, and whether it is the main function.
 #[derive(Clone, Copy)]
 pub struct Scope<'a> {
     pub alloc: Global,
@@ -153,7 +153,7 @@ impl<'a> Scope<'a> {
 
     /// The tree of an expression; none where it isn't one.
     #[cycle(expressions)]
-    fn expression(&self, d: &Datum) -> Result<Option<Node>, OutOfMemory>
+    pub fn expression(&self, d: &Datum) -> Result<Option<Node>, OutOfMemory>
         ensures { IfOk result (λ n. option_map tree n ≡ expression (scope_of self.now) (plain d.now)) }
     {
         match d {

@@ -3,7 +3,7 @@ ghost use Rattle.iface_text.specs.Format.{iface_tree, HasSpelling};
 ghost use Rattle.resolver.specs.Elaboration.{AreSpelled};
 
 use crate::{exported_interface, resolve_module};
-use core_tree::Use;
+use core_tree::{Top, Use};
 use iface_text::{Iface, RowKind, read_iface, write_iface};
 use scheme_data::{OutOfMemory, Text};
 use scheme_read::{ReadErr, read_all};
@@ -28,6 +28,9 @@ fn modules_are_built(rt: HostRuntime) -> Result<(), ReadErr> {
         b"(module m (main f)) (define (f a) 1) (define (g f) f)".as_slice(),
         b"(module m) (define (f x) x)".as_slice(),
         b"(module m)".as_slice(),
+        b"(module m) 1".as_slice(),
+        b"(module m (main f)) (define (f x) 1) #t".as_slice(),
+        b"(module m (main f)) (display (g 1)) (define (f x) 1) (+ 1 2) (g (newline)) (define (g y) y) (if #t (g 2) 3)".as_slice(),
         b"(module m (export (f y) (g)) (main f)) (define (g) (f 1)) (define (f x) 1)".as_slice(),
         b"(module m (main f)) (define (f a) (g) (g 1) (g 1 2)) (define (g x) x)".as_slice(),
         b"(module . (m (main f))) (define (f . (a)) . (1))".as_slice(),
@@ -45,7 +48,6 @@ fn other_forms_are_refused(rt: HostRuntime) -> Result<(), ReadErr> {
         b"(define (f x) 1)".as_slice(),
         b"(module m (main g)) (define (f x) 1)".as_slice(),
         b"(module m (main f))".as_slice(),
-        b"(module m (main f)) (define (f x) 1) 2".as_slice(),
         b"(module m (import f)) (define (f x) 1)".as_slice(),
         b"(module m (import (f a))) (define (g x) 1)".as_slice(),
         b"(module m (export (f x))) (define (g x) 1)".as_slice(),
@@ -58,7 +60,15 @@ fn other_forms_are_refused(rt: HostRuntime) -> Result<(), ReadErr> {
         b"(module m (main f)) (define (f x) 1) (define (f x) 1)".as_slice(),
         b"(module m (main f)) (define (f x) 1) (define (g) 1) (define (g y) 2)".as_slice(),
         b"(module m (main f)) (define (f x) 1) (define (g x y x) 1)".as_slice(),
-        b"(module m (main f)) (define (f x) 1) #t".as_slice(),
+        b"(module m) (define)".as_slice(),
+        b"(module m) 1 (define (f x) 1) (define (g)) 2".as_slice(),
+        b"(module m) (define (f x) 1) x".as_slice(),
+        b"(module m) (define (f x) 1) f".as_slice(),
+        b"(module m) (f x) (define (f x) 1)".as_slice(),
+        b"(module m) (display (define (f x) 1))".as_slice(),
+        b"(module m) (lambda (x) x)".as_slice(),
+        b"(module m) 'a".as_slice(),
+        b"(module m) 1 \"a\"".as_slice(),
         b"(module m (main f)) (define (f . x) 1)".as_slice(),
         b"(module m (main f)) (define (f x) . (1 . 2))".as_slice(),
         b"(module m . #((main f))) (define (f x) 1)".as_slice(),
@@ -238,6 +248,10 @@ fn an_interface_has_a_row_for_each_export_in_clause_order(rt: HostRuntime) -> Re
             source: b"(module b (import (f a)) (export (g))) (define (g) (f 1))",
             gives: b"bigloo-interface 1\nmodule b\nfun g () obj\nend\n",
         },
+        Row {
+            source: b"(module b (import (f a)) (export (g x))) (f (g 1)) (define (g x) x) 7",
+            gives: b"bigloo-interface 1\nmodule b\nfun g (obj) obj\nend\n",
+        },
     ] {
         match interface_text(&rt, row.source)? {
             None => assert!(rt; false),
@@ -258,6 +272,7 @@ fn a_source_that_is_not_built_has_no_interface(rt: HostRuntime) -> Result<(), Re
         b"(module b (import (when a))) (define (g) (when 1))".as_slice(),
         b"(module b (import (f a)) (export (f x))) (define (g) 1)".as_slice(),
         b"(module b (import (f a)) (main f)) (define (g x) 1)".as_slice(),
+        b"(module b (import (f a))) (f 1) (define (g x) 1) (g x)".as_slice(),
     ] {
         assert!(rt; interface_text(&rt, source)?.is_none());
     }
@@ -305,6 +320,48 @@ fn uses_of(rt: &HostRuntime, source: &[u8], ifaces: &[Iface]) -> Result<Option<T
     }
 }
 
+/// Top-level forms in order: a function as its name, and an expression as `-`, each after a blank.
+fn shown_tops(rt: &HostRuntime, tops: &[Top]) -> Result<Text, OutOfMemory> {
+    let mut text = Text::new(rt.alloc());
+    for top in tops {
+        text.push(b' ')?;
+        match top {
+            Top::Function(name, _) => text.extend(name.as_bytes())?,
+            Top::Form(_) => text.push(b'-')?,
+        }
+    }
+    Ok(text)
+}
+
+/// The top-level forms of a source that wants no interfaces; none where it isn't built.
+fn tops_of(rt: &HostRuntime, source: &[u8]) -> Result<Option<Text>, ReadErr> {
+    let data = read_all(rt.alloc(), source)?;
+    match resolve_module(rt.alloc(), data.as_slice(), &[])? {
+        None => Ok(None),
+        Some(m) => Ok(Some(shown_tops(rt, m.tops.as_slice())?)),
+    }
+}
+
+#[test]
+fn functions_and_forms_stand_in_source_order(rt: HostRuntime) -> Result<(), ReadErr> {
+    for row in [
+        Row {
+            source: b"(module m)",
+            gives: b"",
+        },
+        Row {
+            source: b"(module m (main f)) (display 1) (define (f x) 1) (define (g) 2) (g) 3 (define (h) (g)) #t",
+            gives: b" - f g - - h -",
+        },
+    ] {
+        match tops_of(&rt, row.source)? {
+            None => assert!(rt; false),
+            Some(text) => assert_eq!(rt; text.as_bytes(), row.gives),
+        }
+    }
+    Ok(())
+}
+
 const A: &[u8] = b"bigloo-interface 1\nmodule a\nfun f (obj) obj\nfun g (obj obj) obj\nend\n";
 
 const OTHER_A: &[u8] = b"bigloo-interface 1\nmodule a\nfun z () obj\nfun f () obj\nend\n";
@@ -347,6 +404,14 @@ fn uses_are_calls_in_order_of_first_use_and_then_needs(rt: HostRuntime) -> Resul
         Row {
             source: b"(module b (import (when c))) (define (go) 1)",
             gives: b" need c.when*",
+        },
+        Row {
+            source: b"(module b (import (f g a) (h c))) (g 1 2) (define (go x) (f (h))) (f (h))",
+            gives: b" call a.g** call a.f* call c.h",
+        },
+        Row {
+            source: b"(module b (import (f a))) (define (go f) f) (f 1)",
+            gives: b" call a.f*",
         },
     ] {
         match uses_of(&rt, row.source, &ifaces)? {

@@ -1,16 +1,23 @@
-use Rattle.std.proofs.Common.{◌+◌, ap, sym, ◌∙◌}
-use Rattle.std.specs.Option.{option_map}
-use Rattle.core_tree.specs.Tree.{function_tree}
-use Rattle.resolver.proofs.DefinedForms.{no_function, function_added}
+use Rattle.std.proofs.Common.{◌+◌, ap, subst, ◌∙◌, arith}
+use Rattle.module_head.specs.Trees.{head_tree}
+use Rattle.resolver.specs.Parts.{top_of, Builds}
+use Rattle.resolver.proofs.DefinedForms.{not_built, built_more, all_built}
 use Rattle.resolver.proofs.functions.Functions.all.Goals as goal
 
 pub returns-in_default : goal.returns-in_default
 returns-in_default c =
-    no_function c.args.self.now.names.now c.args.self.now.outside.now c.args.self.now.head.now.main c.args.ds.now c.loop-d.tops c.loop-d.first c.loop-d.d-index c.d-item.result
-    c.loop-d-test.true c.d-item.is c.loop-d.invariant (sym (ap (option_map function_tree) c.in_default.is) ∙ c.in_ok-top.ensures)
+    not_built (head_tree c.args.self.now.head.now) c.args.self.now.names.now c.args.self.now.outside.now c.args.tops.now c.loop-top.built c.loop-top.first c.loop-top.top-index c.top-item.result
+    c.loop-top-test.true c.top-item.is c.loop-top.invariant
+    (subst (Builds c.args.self.now.names.now c.args.self.now.outside.now c.args.self.now.head.now.main c.loop-top.first (top_of c.top-item.result)) c.in_default.is c.in_ok-item.ensures)
 
-pub loop-d-preserved : goal.loop-d-preserved
-loop-d-preserved c =
-    function_added c.args.self.now.names.now c.args.self.now.outside.now c.args.self.now.head.now.main c.args.ds.now c.loop-d.tops c.push.new.self c.loop-d.first c.in_ok-end.end c.loop-d.d-index c.d-item.result c.in-Some.top
-    c.loop-d-test.true c.d-item.is c.loop-d.invariant (sym (ap (option_map function_tree) c.in-Some.is) ∙ c.in_ok-top.ensures)
-    (c.in_ok-end.ensures ∙ ap (λ n. c.loop-d.first + n) c.len.ensures.len) c.in_ok-push.ensures.ok
+pub loop-top-preserved : goal.loop-top-preserved
+loop-top-preserved c =
+    built_more c.args.self.now.names.now c.args.self.now.outside.now c.args.self.now.head.now.main c.args.tops.now c.loop-top.built c.push.new.self c.loop-top.first c.in_ok-end.end c.loop-top.top-index
+    c.top-item.result c.in-Some.item c.loop-top-test.true c.top-item.is c.loop-top.invariant
+    (subst (Builds c.args.self.now.names.now c.args.self.now.outside.now c.args.self.now.head.now.main c.loop-top.first (top_of c.top-item.result)) c.in-Some.is c.in_ok-item.ensures)
+    (c.in_ok-end.ensures ∙ ap (λ n. c.loop-top.first + n) c.param_count.ensures) c.in_ok-push.ensures.ok
+
+pub returns : goal.returns
+returns c =
+    all_built (head_tree c.args.self.now.head.now) c.args.self.now.names.now c.args.self.now.outside.now c.args.tops.now c.loop-top.built c.loop-top.first c.loop-top.top-index
+    (omega arith) c.loop-top.invariant

@@ -1,0 +1,13 @@
+use Rattle.resolver.proofs.Tables.{there, absent, inserted, listed_twice, listed_more}
+use Rattle.resolver.proofs.tops.function_names.Goals as goal
+
+pub returns-then-not-branch : goal.returns-then-not-branch
+returns-then-not-branch c =
+    listed_twice c.args.tops.now c.loop-top.names c.loop-top.top-index c.top-item.result c.in-Define.d c.loop-top-test.true c.top-item.is c.loop-top.invariant c.in-Define.is
+    (there _ c.loop-top.names _ c.in_ok-add_name.ensures.added c.if-not-branch.true)
+
+pub loop-top-preserved : goal.loop-top-preserved
+loop-top-preserved c =
+    listed_more c.args.tops.now c.loop-top.names c.add_name.new.names c.loop-top.top-index c.top-item.result c.in-Define.d c.loop-top-test.true c.top-item.is c.loop-top.invariant c.in-Define.is
+    (absent _ c.loop-top.names _ c.in_ok-add_name.ensures.added c.if-not-branch.false)
+    (inserted _ c.loop-top.names _ _ c.in_ok-add_name.ensures.ok c.if-not-branch.false)
