@@ -19,7 +19,7 @@ use Rattle.c_tree.specs.declared.tree.CTy.TheVariants.{Obj}
 use Rattle.c_tree.specs.Names.{function_name, maker_name, initializer_name, is_function_name}
 use Rattle.c_tree.proofs.NameShapes.{AreBytes, function_name-is_function_name, maker_name-is_function_name, initializer_name-is_function_name}
 use Rattle.c_meaning.specs.Execution.{is_same}
-use Rattle.c_meaning.specs.Checked.{Function, role_of, may_call, signature_named, same_types, same_signature, are_distinct, callable, agrees}
+use Rattle.c_meaning.specs.Checked.{Role, Function, role_of, may_call, signature_named, same_types, same_signature, are_distinct, callable, agrees}
 use Rattle.plan_rules.specs.Translation.{Name, c_name_of, callees}
 use Rattle.code_gen.proofs.Mangling.{function_same}
 use Rattle.code_gen.proofs.Roles.{function_role, last_names, last_other, last_distinct}
@@ -315,13 +315,13 @@ module _ (cs : List Callee) (distinct : are_distinct (names_of cs) ≡ true) whe
 has_name_before : (cs : List Callee) (others : List Name) (c : Callee) → Has c cs → list_any (is_same (c_name_of c)) (names_of cs ++ others) ≡ true
 has_name_before cs others c has = list_any-append (is_same (c_name_of c)) (names_of cs) others ∙ ap (λ b. b || list_any (is_same (c_name_of c)) others) (has_name cs c has)
 
--- a function of a module may call all that are declared so far, where these and others are defined somewhere
-pub all_callable : (cs : List Callee) (others : List Name) (ds : List Callee) → Within ds cs → callable Function (names_of cs ++ others) (map signature ds) ≡ map signature ds
-all_callable cs others [] within = refl
-all_callable cs others (d ∷ ds) within =
+-- what may call functions of modules may call all that are declared so far, where these and others are defined somewhere
+pub all_callable : (r : Role) → may_call r Function ≡ true → (cs : List Callee) (others : List Name) (ds : List Callee) → Within ds cs → callable r (names_of cs ++ others) (map signature ds) ≡ map signature ds
+all_callable r may_functions cs others [] within = refl
+all_callable r may_functions cs others (d ∷ ds) within =
     let s = signature d in
     let names = names_of cs ++ others in
-    let more = callable Function names (map signature ds) in
-    let may : (may_call Function (role_of s.name) && list_any (is_same s.name) names) ≡ true =
-    and_from (may_call Function (role_of s.name)) (list_any (is_same s.name) names) (ap (may_call Function) (function_role d.module_name d.name)) (has_name_before cs others d (within d (inl refl))) in
-    ap (λ b. cond b (s ∷ more) more) may ∙ ap (λ ss. s ∷ ss) (all_callable cs others ds (λ k j. within k (inr j)))
+    let more = callable r names (map signature ds) in
+    let may : (may_call r (role_of s.name) && list_any (is_same s.name) names) ≡ true =
+    and_from (may_call r (role_of s.name)) (list_any (is_same s.name) names) (ap (may_call r) (function_role d.module_name d.name) ∙ may_functions) (has_name_before cs others d (within d (inl refl))) in
+    ap (λ b. cond b (s ∷ more) more) may ∙ ap (λ ss. s ∷ ss) (all_callable r may_functions cs others ds (λ k j. within k (inr j)))

@@ -2,16 +2,13 @@
 use Rattle.std.proofs.Common.{◌≡◌, ℕ, suc, ◌+◌, ◌≤◌, ◌^◌, Bool, true, false, List, [], ◌∷◌, ◌++◌, length, map, replicate, Option, Some, refl, sym, ap, ◌∙◌, subst, arith}
 use Rattle.std.specs.Prelude.{if◌then◌else◌, IsTrue}
 use Rattle.std.proofs.lemmas.Bool.{and_from}
-use Rattle.std.proofs.lemmas.List.{append-nil}
 use Rattle.core_tree.specs.declared.tree.VarId.{VarId}
 use Rattle.core_tree.specs.Tree.{Tree, Constant, Variable, If, Sequence, Call, Primitive, none, more, FunctionTree, ModuleTree, Callee, own_callee}
 use Rattle.core_tree.specs.WellFormed.{same_variable, IsFunction, IsWellFormed}
 use Rattle.c_tree.specs.declared.tree.CTy.TheVariants as c_ty
 use Rattle.c_tree.specs.declared.tree.CVar.{CVar}
-use Rattle.c_tree.specs.declared.pieces.Piece.TheVariants as piece
 use Rattle.c_tree.specs.Code.{Code, done, loop, Fun, defined}
-use Rattle.c_tree.specs.Names.{local_name, label_name, function_name, is_function_name}
-use Rattle.c_tree.specs.Pieces.{pieces}
+use Rattle.c_tree.specs.Names.{local_name, label_name, is_function_name}
 use Rattle.c_tree.specs.Spelling.{NamedVars, NamedCode, NamedItem}
 use Rattle.c_tree.proofs.NameShapes.{is_label_name-label_name}
 use Rattle.c_meaning.specs.Checked.{Signature, signature_of, variables_of, are_distinct, code_fits, Function, role_of, is_looped, has_shape, function_fits}
@@ -19,12 +16,10 @@ use Rattle.plan_rules.specs.declared.rep.Rep.{Rep}
 use Rattle.plan_rules.specs.declared.rep.Rep.TheVariants.{Obj}
 use Rattle.plan_rules.specs.Representation.{Slot, PlainAt, slot_of, c_type_of}
 use Rattle.plan_rules.specs.Translation.{Name, IsLocal, back, scope_of, c_name_of, callees, Tr, TrFunction}
-use Rattle.code_gen.specs.declared.emitter.Emitter.{Emitter}
 use Rattle.code_gen.specs.Scopes.{words, scope_from}
 use Rattle.code_gen.specs.Settings.{Setting, IsBodyIn, TrIn}
-use Rattle.code_gen.specs.Emission.{AreBelow, AreCounted, AreLocals, IsFresh, Puts, Grows, IsBodyOf, setting_of, word_names, variables_with, IsLooped, IsFunctionOf}
+use Rattle.code_gen.specs.Emission.{AreBelow, AreCounted, AreLocals, setting_of, word_names, variables_with, IsFunctionOf}
 use Rattle.code_gen.proofs.Counts.{below_none, below_one}
-use Rattle.code_gen.proofs.Steps.{grows_then, put_grows, put_front}
 use Rattle.code_gen.proofs.Variables.{counted_distinct, counted_locals, counted_named, local_named}
 use Rattle.code_gen.proofs.Roles.{function_role}
 use Rattle.code_gen.proofs.Soundness.{signature, Grounds, Fine, fine_done, fine_last}
@@ -32,7 +27,7 @@ use Rattle.code_gen.proofs.Declared.{Within, called, callees_distinct, callees_n
 
 -- Parameters --------------------------------------------------------------------------------
 
-words_below : (n k : ℕ) (params : List VarId) → n + length params ≤ k → AreBelow k (map (λ v. v.name) (words n params))
+pub words_below : (n k : ℕ) (params : List VarId) → n + length params ≤ k → AreBelow k (map (λ v. v.name) (words n params))
 words_below n k [] within = below_none k
 words_below n k (x ∷ xs) within = below_one k n (map (λ v. v.name) (words (suc n) xs)) (omega arith) (words_below (suc n) k xs (omega arith))
 
@@ -61,13 +56,13 @@ scoped vars n (p ∷ ps) l x r y e = scoped_at (same_variable x p) vars n (slot_
 
 -- Its variables -----------------------------------------------------------------------------
 
-record HasVariables (params : List VarId) (added : List CVar) : Type 0 where
-  distinct : are_distinct (map (λ v. v.name) (variables_with params added)) ≡ true
-  all_named : NamedVars (variables_with params added)
-  params_named : NamedVars (words 0 params)
-  locals_named : NamedVars added
-  words_local : AreLocals (variables_with params added) (words 0 params)
-  locals : AreLocals (variables_with params added) added
+pub record HasVariables (params : List VarId) (added : List CVar) : Type 0 where
+  pub distinct : are_distinct (map (λ v. v.name) (variables_with params added)) ≡ true
+  pub all_named : NamedVars (variables_with params added)
+  pub params_named : NamedVars (words 0 params)
+  pub locals_named : NamedVars added
+  pub words_local : AreLocals (variables_with params added) (words 0 params)
+  pub locals : AreLocals (variables_with params added) added
 
 first_named : (xs ys : List CVar) → NamedVars (xs ++ ys) → NamedVars xs
 first_named [] ys h = tt
@@ -87,7 +82,7 @@ unfolding AreLocals
 others_locals vars [] ys h = h
 others_locals vars (x ∷ xs) ys h = others_locals vars xs ys h.1
 
-has_variables : (params : List VarId) (locals : List CVar) (last : ℕ) → AreCounted locals (length params) last → last ≤ 2 ^ 32 → HasVariables params locals
+pub has_variables : (params : List VarId) (locals : List CVar) (last : ℕ) → AreCounted locals (length params) last → last ≤ 2 ^ 32 → HasVariables params locals
 has_variables params locals last counted small =
     let ws = words 0 params in
     let all = words_counted 0 (length params) params locals last (omega arith) counted in
@@ -102,50 +97,6 @@ has_variables params locals last counted small =
       locals = others_locals (ws ++ locals) ws locals local;
     }
 
--- The function ------------------------------------------------------------------------------
-
-none_counted : (s : Emitter) (first : ℕ) → s.locals ≡ [] → s.next ≡ first → AreCounted s.locals first s.next
-unfolding AreCounted
-none_counted s first e f =
-    let A : List CVar → ℕ → Type 0 = λ vs n. AreCounted vs first n in
-    subst (λ vs. A vs s.next) (sym e) (subst (A []) (sym f) refl)
-
-pub loop_written : (w : Setting) (n : Tree) (s t u v : Emitter) → IsFresh s (length w.params) → length w.params ≤ 2 ^ 32 → Puts s t (piece.Loop (label_name 0)) → IsBodyOf w t u n → Puts u v piece.End → IsLooped w n v
-loop_written w n s t u v fresh few opens all closes =
-    let first : s.next ≡ length w.params = fresh.next_is in
-    let opened : t.next ≡ s.next = opens.next_is in
-    let grows : Grows s v = grows_then s t v (put_grows s t (piece.Loop (label_name 0)) opens) (grows_then t u v all.emits.grows (put_grows u v piece.End closes)) in
-    let counted : AreCounted v.locals (length w.params) v.next = grows.counted (length w.params) (none_counted s (length w.params) fresh.locals first) in
-    let small : v.next ≤ 2 ^ 32 = grows.small (omega arith) in
-    let vars = variables_with w.params v.locals in
-    let inside : AreLocals vars u.locals = (put_grows u v piece.End closes).kept vars (has_variables w.params v.locals v.next counted small).locals in
-    let b = all.emits.code vars inside done in
-    record {
-      small = small;
-      counted = counted;
-      code = b.code;
-      is = sym (
-          ap (λ ps. ps ++ piece.Loop (label_name 0) ∷ pieces b.code (piece.End ∷ [])) (sym fresh.pieces_are)
-          ∙ put_front s t (piece.Loop (label_name 0)) (pieces b.code (piece.End ∷ [])) opens ∙ b.is (piece.End ∷ []) ∙ put_front u v piece.End [] closes ∙ append-nil v.pieces
-          );
-      translated = b.meant (word_names w.params) (words_below 0 t.next w.params (omega arith));
-    }
-
-pub function_written : (m : ModuleTree) (f : FunctionTree) (e : Emitter) (g : Fun) (looped : IsLooped (setting_of m f) f.body e)
-    → g.name ≡ function_name m.name f.name → g.result ≡ c_ty.Obj → g.params ≡ words 0 f.params → g.locals ≡ e.locals → g.code ≡ loop (label_name 0) looped.code done → IsFunctionOf m f g
-function_written m f e g looped name_is result params locals code_is =
-    record {
-      name_is = name_is;
-      result = result;
-      params = params;
-      last = e.next;
-      small = looped.small;
-      counted = subst (λ vs. AreCounted vs (length f.params) e.next) (sym locals) looped.counted;
-      code = looped.code;
-      looped = code_is;
-      translated = subst (λ vs. TrIn (setting_of m f) (variables_with f.params vs) f.body Obj (word_names f.params) back looped.code done) (sym locals) looped.translated;
-    }
-
 -- Its statements ----------------------------------------------------------------------------
 
 whole_body : (w : Setting) (vars : List CVar) (b : Tree) (live : List Name) (code : Code) → IsBodyIn w b → TrIn w vars b Obj live back code done → TrIn w vars (Sequence (more b none)) Obj live back code done
@@ -158,7 +109,7 @@ whole_body w vars (Call g ns) live code h t = absurd h
 whole_body w vars (Primitive p ns) live code h t = absurd h
 
 fine_body : (w : Setting) (sigs : List Signature) (vars : List CVar) (grounds : Grounds w sigs vars) (b : Tree) (live : List Name) (code : Code) → IsBodyIn w b → TrIn w vars b Obj live back code done
-    → Fine w sigs vars grounds code
+    → Fine w sigs vars grounds false code
 unfolding Tr
 fine_body w sigs vars grounds (Constant c) live code h t = absurd h
 fine_body w sigs vars grounds (Variable x) live code h t = absurd h
@@ -191,6 +142,18 @@ as_many_words (x ∷ xs) = ap (λ ts. c_ty.Obj ∷ ts) (as_many_words xs)
 signature_at : (c : Callee) (g : Fun) → g.name ≡ c_name_of c → g.result ≡ c_ty.Obj → map (λ v. v.ty) g.params ≡ replicate c.params c_ty.Obj → signature_of (defined g) ≡ signature c
 signature_at c g name result params = cc
 
+-- what the statements of a unit's function rest on
+pub grounded : (m : ModuleTree) (w : IsWellFormed m) (cs : List Callee) (params : List VarId) (locals : List CVar) → Within cs (callees m) → Within (callees m) cs → HasVariables params locals
+    → Grounds (record { in_module = m; params = params }) (map signature cs) (variables_with params locals)
+grounded m w cs params locals within covers has =
+    let vars = variables_with params locals in
+    record {
+      locals_named = λ x t l. local_named vars x t has.all_named l;
+      scoped = scoped vars 0 params has.words_local;
+      signed = λ r c found. let here = called m r c found in signed (callees m) (callees_distinct m w) c cs here within (covers c here);
+      called_named = λ r c found. named_at (callees m) c (callees_named m w) (called m r c found);
+    }
+
 pub function_fits_module : (m : ModuleTree) (w : IsWellFormed m) (cs : List Callee) (f : FunctionTree) (g : Fun) → Within cs (callees m) → Within (callees m) cs → IsFunction m f
     → IsFunctionOf m f g → Fits m (map signature cs) f g
 function_fits_module m w cs f g within covers formed is =
@@ -199,12 +162,7 @@ function_fits_module m w cs f g within covers formed is =
     let vars = variables_with f.params g.locals in
     let are : vars ≡ variables_of g = ap (λ ps. ps ++ g.locals) (sym is.params) in
     let sigs = map signature cs in
-    let grounds : Grounds s sigs vars = record {
-      locals_named = λ x t l. local_named vars x t has.all_named l;
-      scoped = scoped vars 0 f.params has.words_local;
-      signed = λ r c found. let here = called m r c found in signed (callees m) (callees_distinct m w) c cs here within (covers c here);
-      called_named = λ r c found. named_at (callees m) c (callees_named m w) (called m r c found);
-    } in
+    let grounds : Grounds s sigs vars = grounded m w cs f.params g.locals within covers has in
     let fine = fine_body s sigs vars grounds f.body (word_names f.params) is.code formed.body is.translated in
     let role : role_of g.name ≡ Function = ap role_of is.name_is ∙ function_role m.name f.name in
     let types : map (λ v. v.ty) g.params ≡ map (λ _. c_ty.Obj) f.params = ap (map (λ v. v.ty)) is.params ∙ words_typed 0 f.params in

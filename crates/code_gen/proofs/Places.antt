@@ -1,5 +1,5 @@
 -- The locals of parameters: a table finds them, and they are numbered in order.
-use Rattle.std.proofs.Common.{◌≡◌, ℕ, zero, suc, ◌+◌, ◌<◌, ◌≤◌, Bool, true, false, List, [], ◌∷◌, ◌++◌, length, map, take, drop, get_or, Option, Some, None, refl, sym, ap, ◌∙◌, subst, arith, add-one}
+use Rattle.std.proofs.Common.{◌≡◌, ℕ, zero, suc, ◌+◌, ◌<◌, ◌≤◌, Bool, true, false, List, [], ◌∷◌, ◌++◌, length, take, drop, get_or, Option, Some, None, refl, sym, ap, ◌∙◌, subst, arith, add-one}
 use Rattle.std.specs.Prelude.{IsTrue, cond, if◌then◌else◌, nat_eq, ◌||◌}
 use Rattle.std.specs.List.{list_any}
 use Rattle.std.specs.Ordering.{nat_cmp, is_eq}
@@ -99,11 +99,3 @@ next_word params inside i count vars more name same counted within so name_is e 
     let same_length : length inside ≡ length params = ap length same in
     e ∙ ap (λ vs. vs ++ record { ty = c_ty.Obj; name = name } ∷ []) so ∙ ap (λ n. words 0 (take i params) ++ record { ty = c_ty.Obj; name = n } ∷ []) name_is
     ∙ sym (words_more 0 params i i (omega arith) (omega arith)) ∙ ap (λ k. words 0 (take k params)) (sym (add-one i))
-
-types_more : (params : List VarId) (i : ℕ) → i < length params → map (λ _. c_ty.Obj) (take (suc i) params) ≡ map (λ _. c_ty.Obj) (take i params) ++ c_ty.Obj ∷ []
-types_more [] i within = absurd (omega arith)
-types_more (x ∷ xs) zero within = refl
-types_more (x ∷ xs) (suc i) within = ap (λ ts. c_ty.Obj ∷ ts) (types_more xs i (omega arith))
-
-pub next_type : (params : List VarId) (i : ℕ) → i < length params → map (λ _. c_ty.Obj) (take (i + 1) params) ≡ map (λ _. c_ty.Obj) (take i params) ++ c_ty.Obj ∷ []
-next_type params i within = rw (add-one i) (types_more params i within)

@@ -23,15 +23,15 @@ use Rattle.c_tree.specs.declared.tree.CCall.{CCall}
 use Rattle.c_tree.specs.declared.tree.CExpr.{CExpr}
 use Rattle.c_tree.specs.declared.tree.CExpr.TheVariants as expr
 use Rattle.c_tree.specs.declared.tree.CVar.{CVar}
-use Rattle.c_tree.specs.Code.{Code, done, assign, call, return, test}
+use Rattle.c_tree.specs.Code.{Code, done, assign, call, return, test, loop}
 use Rattle.c_tree.specs.Names.{is_local_name, is_function_name}
 use Rattle.c_tree.specs.Spelling.{NamedArguments, NamedCall, NamedExpr, NamedCode}
-use Rattle.c_meaning.specs.Checked.{Signature, signature_named, same_type, is_typed, variable_named, Wants, AType, wants_of, gives_of, arguments_fit, call_fits_signature, call_type, is_the_type, has_type, expr_fits, assigned_fits, code_fits}
+use Rattle.c_meaning.specs.Checked.{Signature, signature_named, same_type, is_typed, variable_named, Wants, AType, wants_of, gives_of, arguments_fit, call_fits_signature, call_type, is_the_type, has_type, expr_fits, assigned_fits, code_fits, returns_last}
 use Rattle.plan_rules.specs.declared.rep.Rep.{Rep}
 use Rattle.plan_rules.specs.declared.rep.Rep.TheVariants.{Obj, Long, Bool as Truth_rep}
 use Rattle.plan_rules.specs.Representation.{Slot, PlainAt, slot_of, rep_of, c_type_of, has_of, constant_expr, condition, operation, raise_count, raise_type, call_of, local, step}
-use Rattle.plan_rules.specs.Translation.{Name, IsLocal, Place, into, back, deliver, Statements, Coerced, Fits, AllFit, Applied, Branches, haves, objects, is_counted, c_name_of, TrConstant, TrVariable, TrVariableUnused, TrCounted, TrCall, Tr, TrUnused, TrLast, TrArguments}
-use Rattle.code_gen.specs.Settings.{Setting, scope_in, IsNode, AreNodes, TrIn, TrUnusedIn, TrLastIn, TrArgumentsIn}
+use Rattle.plan_rules.specs.Translation.{Name, IsLocal, Place, into, back, deliver, Statements, Coerced, Fits, AllFit, Applied, Branches, haves, objects, is_counted, c_name_of, TrConstant, TrVariable, TrVariableUnused, TrCounted, TrCall, Tr, TrUnused, TrAllUnused, TrLast, TrArguments}
+use Rattle.code_gen.specs.Settings.{Setting, scope_in, IsNode, AreNodes, TrIn, TrUnusedIn, TrAllUnusedIn, TrLastIn, TrArgumentsIn}
 
 same_c_type : (t u : CTy) → same_type t u ≡ true → t ≡ u
 same_c_type c_ty.Obj c_ty.Obj e = refl
@@ -74,13 +74,27 @@ objects_want none (suc k) e = absurd (omega arith)
 objects_want (more n ns) zero e = absurd (omega arith)
 objects_want (more n ns) (suc k) e = ap (λ ws. AType c_ty.Obj ∷ ws) (objects_want ns k (omega arith))
 
+-- what ends with `return` does so behind another
+returns_over : (e : CExpr) (rest : Code) → returns_last rest ≡ true → returns_last (return e rest) ≡ true
+returns_over e done h = refl
+returns_over e (assign x f rest) h = h
+returns_over e (call c rest) h = h
+returns_over e (return f rest) h = h
+returns_over e (test f a b rest) h = h
+returns_over e (loop l body rest) h = h
+
 module _ (w : Setting) (sigs : List Signature) (vars : List CVar) (grounds : Grounds w sigs vars) where
-  pub record Fine (code : Code) : Type 0 where
+  -- the types of statements fit and their names are right, and if they are to, they end with `return`
+  pub record Fine (last : Bool) (code : Code) : Type 0 where
     pub fits : code_fits sigs vars c_ty.Obj code ≡ true
     pub named : NamedCode code
+    pub ends : last ≡ true → returns_last code ≡ true
 
-  pub fine_done : Fine done
-  fine_done = record { fits = refl; named = tt }
+  pub fine_done : Fine false done
+  fine_done = record { fits = refl; named = tt; ends = λ e. absurd (cc) }
+
+  pub fine_end : Fine true (return (expr.Atom atom.Unspec) done)
+  fine_end = record { fits = refl; named = (tt, tt); ends = λ e. refl }
 
   -- Expressions -----------------------------------------------------------------------------
 
@@ -159,30 +173,34 @@ module _ (w : Setting) (sigs : List Signature) (vars : List CVar) (grounds : Gro
   assigned None t e h f = absurd (cc h)
   assigned (Some v) t e h f = subst (λ u. expr_fits sigs vars e u ≡ true) (same_c_type t v.ty h) f
 
-  fine_assign : (x : Name) (t : CTy) (e : CExpr) (rest : Code) → IsLocal vars x t → FineExpr e t → Fine rest → Fine (assign x e rest)
+  fine_assign : {last : Bool} (x : Name) (t : CTy) (e : CExpr) (rest : Code) → IsLocal vars x t → FineExpr e t → Fine last rest → Fine last (assign x e rest)
   fine_assign x t e rest l h f = record {
     fits = and_from (assigned_fits sigs vars e (variable_named vars x)) (code_fits sigs vars c_ty.Obj rest) (assigned (variable_named vars x) t e l h.fits) f.fits;
     named = (grounds.locals_named x t l, h.named, f.named);
+    ends = f.ends;
   }
 
-  fine_return : (e : CExpr) (rest : Code) → FineExpr e c_ty.Obj → Fine rest → Fine (return e rest)
+  fine_return : {last : Bool} (e : CExpr) (rest : Code) → FineExpr e c_ty.Obj → Fine last rest → Fine last (return e rest)
   fine_return e rest h f = record {
     fits = and_from (expr_fits sigs vars e c_ty.Obj) (code_fits sigs vars c_ty.Obj rest) h.fits f.fits;
     named = (h.named, f.named);
+    ends = λ last. returns_over e rest (f.ends last);
   }
 
-  fine_statement : (c : CCall) (t : CTy) (rest : Code) → FineCall c t → Fine rest → Fine (call c rest)
+  fine_statement : {last : Bool} (c : CCall) (t : CTy) (rest : Code) → FineCall c t → Fine last rest → Fine last (call c rest)
   fine_statement c t rest h f = record {
     fits = and_from (has_type (call_type sigs vars c.callee c.args)) (code_fits sigs vars c_ty.Obj rest) (ap has_type h.typed) f.fits;
     named = (h.named, f.named);
+    ends = f.ends;
   }
 
-  fine_test : (e : CExpr) (a b rest : Code) → FineExpr e c_ty.Int → Fine a → Fine b → Fine rest → Fine (test e a b rest)
+  fine_test : {last : Bool} (e : CExpr) (a b rest : Code) → FineExpr e c_ty.Int → Fine false a → Fine false b → Fine last rest → Fine last (test e a b rest)
   fine_test e a b rest h f g k =
       let fits : Code → Bool = code_fits sigs vars c_ty.Obj in
       record {
         fits = and_from (expr_fits sigs vars e c_ty.Int) (fits a && (fits b && fits rest)) h.fits (and_from (fits a) (fits b && fits rest) f.fits (and_from (fits b) (fits rest) g.fits k.fits));
         named = (h.named, f.named, g.named, k.named);
+        ends = k.ends;
       }
 
   -- the place takes a value in this representation
@@ -190,7 +208,7 @@ module _ (w : Setting) (sigs : List Signature) (vars : List CVar) (grounds : Gro
   PlaceFits (into x) h = IsLocal vars x (c_type_of h)
   PlaceFits back h = h ≡ Obj
 
-  fine_deliver : (place : Place) (h : Rep) (e : CExpr) (rest : Code) → PlaceFits place h → FineExpr e (c_type_of h) → Fine rest → Fine (deliver place e rest)
+  fine_deliver : {last : Bool} (place : Place) (h : Rep) (e : CExpr) (rest : Code) → PlaceFits place h → FineExpr e (c_type_of h) → Fine last rest → Fine last (deliver place e rest)
   fine_deliver (into x) h e rest l f g = fine_assign x (c_type_of h) e rest l f g
   fine_deliver back h e rest l f g = fine_return e rest (subst (λ k. FineExpr e (c_type_of k)) l f) g
 
@@ -221,26 +239,26 @@ module _ (w : Setting) (sigs : List Signature) (vars : List CVar) (grounds : Gro
   made_one ty.Bool Truth_rep live y code made rest f l = subst (λ x. IsLocal vars x c_ty.Int) (sym f.1) l
 
   -- an operation on the value goes to a local
-  fine_made_by : (o : Op) (t u : CTy) (y made : Name) (code rest : Code) → wants_of o ≡ AType t ∷ [] → gives_of o ≡ u → IsLocal vars y t → IsLocal vars made u
-      → code ≡ assign made (expr.Call (operation o (local y ∷ []))) rest → Fine rest → Fine code
+  fine_made_by : {last : Bool} (o : Op) (t u : CTy) (y made : Name) (code rest : Code) → wants_of o ≡ AType t ∷ [] → gives_of o ≡ u → IsLocal vars y t → IsLocal vars made u
+      → code ≡ assign made (expr.Call (operation o (local y ∷ []))) rest → Fine last rest → Fine last code
   fine_made_by o t u y made code rest wants gives l m is g =
       let e = expr.Call (operation o (local y ∷ [])) in
-      subst Fine (sym is) (fine_assign made u e rest m (subst (FineExpr e) gives (fine_on o y t wants l)) g)
+      subst (Fine _) (sym is) (fine_assign made u e rest m (subst (FineExpr e) gives (fine_on o y t wants l)) g)
 
   -- an error, and then the number 0
-  fine_zero : (t : Ty) (u : CTy) (made : Name) (code rest : Code) → FineExpr (whole 0) u → IsLocal vars made u → code ≡ call (raise_type t) (assign made (whole 0) rest) → Fine rest → Fine code
-  fine_zero t u made code rest h m is g = subst Fine (sym is) (fine_statement (raise_type t) c_ty.Int (assign made (whole 0) rest) (fine_refusal t) (fine_assign made u (whole 0) rest m h g))
+  fine_zero : {last : Bool} (t : Ty) (u : CTy) (made : Name) (code rest : Code) → FineExpr (whole 0) u → IsLocal vars made u → code ≡ call (raise_type t) (assign made (whole 0) rest) → Fine last rest → Fine last code
+  fine_zero t u made code rest h m is g = subst (Fine _) (sym is) (fine_statement (raise_type t) c_ty.Int (assign made (whole 0) rest) (fine_refusal t) (fine_assign made u (whole 0) rest m h g))
 
-  fine_one : (t : Ty) (h : Rep) (live : List Name) (y : Name) (code : Code) (made : Name) (rest : Code) → Fits vars t (step t h) live y code made rest → IsLocal vars y (c_type_of h) → Fine rest → Fine code
-  fine_one ty.Obj Obj live y code made rest f l g = subst Fine (sym f.0) g
+  fine_one : {last : Bool} (t : Ty) (h : Rep) (live : List Name) (y : Name) (code : Code) (made : Name) (rest : Code) → Fits vars t (step t h) live y code made rest → IsLocal vars y (c_type_of h) → Fine last rest → Fine last code
+  fine_one ty.Obj Obj live y code made rest f l g = subst (Fine _) (sym f.0) g
   fine_one ty.Obj Long live y code made rest f l g = fine_made_by BoxLong c_ty.Long c_ty.Obj y made code rest refl refl l f.is_local f.is g
   fine_one ty.Obj Truth_rep live y code made rest f l g = fine_made_by BoxBool c_ty.Int c_ty.Obj y made code rest refl refl l f.is_local f.is g
   fine_one ty.Long Obj live y code made rest f l g = fine_made_by UnboxLong c_ty.Obj c_ty.Long y made code rest refl refl l f.is_local f.is g
-  fine_one ty.Long Long live y code made rest f l g = subst Fine (sym f.0) g
+  fine_one ty.Long Long live y code made rest f l g = subst (Fine _) (sym f.0) g
   fine_one ty.Long Truth_rep live y code made rest f l g = fine_zero ty.Long c_ty.Long made code rest (record { fits = refl; named = refl }) f.is_local f.is g
   fine_one ty.Bool Obj live y code made rest f l g = absurd f
   fine_one ty.Bool Long live y code made rest f l g = fine_zero ty.Bool c_ty.Int made code rest (record { fits = refl; named = refl }) f.is_local f.is g
-  fine_one ty.Bool Truth_rep live y code made rest f l g = subst Fine (sym f.0) g
+  fine_one ty.Bool Truth_rep live y code made rest f l g = subst (Fine _) (sym f.0) g
 
   made_all : (ts : List Ty) (hs : List Rep) (ys live : List Name) (code : Code) (made : List Name) (rest : Code) → AllFit vars ts hs ys live code made rest → AreTyped ys hs → AreMade made ts
   made_all [] [] [] live code made rest f l = subst (λ m. AreMade m []) (sym f.1) tt
@@ -253,8 +271,8 @@ module _ (w : Setting) (sigs : List Signature) (vars : List CVar) (grounds : Gro
   made_all (t ∷ ts) [] (y ∷ ys) live code made rest f l = absurd f
   made_all (t ∷ ts) (h ∷ hs) [] live code made rest f l = absurd f
 
-  fine_all : (ts : List Ty) (hs : List Rep) (ys live : List Name) (code : Code) (made : List Name) (rest : Code) → AllFit vars ts hs ys live code made rest → AreTyped ys hs → Fine rest → Fine code
-  fine_all [] [] [] live code made rest f l g = subst Fine (sym f.0) g
+  fine_all : {last : Bool} (ts : List Ty) (hs : List Rep) (ys live : List Name) (code : Code) (made : List Name) (rest : Code) → AllFit vars ts hs ys live code made rest → AreTyped ys hs → Fine last rest → Fine last code
+  fine_all [] [] [] live code made rest f l g = subst (Fine _) (sym f.0) g
   fine_all (t ∷ ts) (h ∷ hs) (y ∷ ys) live code made rest f l g =
       fine_one t h live y code f.first f.middle f.fits l.0 (fine_all ts hs ys (f.first ∷ live) f.middle f.rest rest f.all l.1 g)
   fine_all [] [] (y ∷ ys) live code made rest f l g = absurd f
@@ -300,15 +318,15 @@ module _ (w : Setting) (sigs : List Signature) (vars : List CVar) (grounds : Gro
   fine_made ts made h = record { fits = made_fit ts made h; named = made_named ts made h }
 
   -- arguments are evaluated and made to fit, and the end is right for such arguments
-  fine_applied : (ts : List Ty) (ns : Trees) (live : List Name) (finish : List CArg → Code) (code : Code)
-      → ((ys : List Name) (code middle : Code) → TrArgumentsIn w vars ts ns live ys code middle → Fine middle → Fine code)
-      → ((args : List CArg) → FineArgs (map wanted ts) args → Fine (finish args))
-      → Applied vars (λ ys code middle. TrArgumentsIn w vars ts ns live ys code middle) ts (haves (scope_in w) ts ns) live finish code → Fine code
+  fine_applied : {last : Bool} (ts : List Ty) (ns : Trees) (live : List Name) (finish : List CArg → Code) (code : Code)
+      → ((ys : List Name) (code middle : Code) → TrArgumentsIn w vars ts ns live ys code middle → Fine last middle → Fine last code)
+      → ((args : List CArg) → FineArgs (map wanted ts) args → Fine last (finish args))
+      → Applied vars (λ ys code middle. TrArgumentsIn w vars ts ns live ys code middle) ts (haves (scope_in w) ts ns) live finish code → Fine last code
   fine_applied ts ns live finish code evaluated finished a =
       let hs = haves (scope_in w) ts ns in
       let l = typed_arguments ts ns live a.temporaries code a.middle a.values in
       let m = made_all ts hs a.temporaries (a.temporaries ++ live) a.middle a.made a.last a.fit l in
-      let end = subst Fine (sym a.is) (finished (map local a.made) (fine_made ts a.made m)) in
+      let end = subst (Fine _) (sym a.is) (finished (map local a.made) (fine_made ts a.made m)) in
       evaluated a.temporaries code a.middle a.values (fine_all ts hs a.temporaries (a.temporaries ++ live) a.middle a.made a.last a.fit l end)
 
   -- Calls -----------------------------------------------------------------------------------
@@ -318,68 +336,68 @@ module _ (w : Setting) (sigs : List Signature) (vars : List CVar) (grounds : Gro
       let fits : FineArgs (wants_of (Does p)) args = subst (λ ws. FineArgs ws args) (sym (wants-params p)) h in
       subst (FineCall (operation (Does p) args)) (gives-result p) (fine_operation (Does p) args fits)
 
-  fine_counted : (right : Bool) (g : GlobalRef) (f : Callee) (ns : Trees) (live : List Name) (finish : CCall → Code) (code rest : Code)
+  fine_counted : {last : Bool} (right : Bool) (g : GlobalRef) (f : Callee) (ns : Trees) (live : List Name) (finish : CCall → Code) (code rest : Code)
       → is_counted f ns ≡ right → callee_of w.in_module g ≡ Some f
-      → ((ys : List Name) (code middle : Code) → TrArgumentsIn w vars (objects ns) ns live ys code middle → Fine middle → Fine code)
-      → ((c : CCall) → FineCall c c_ty.Obj → Fine (finish c)) → Fine rest
-      → TrCounted w.in_module (scope_in w) vars right f (λ ys code middle. TrArgumentsIn w vars (objects ns) ns live ys code middle) ns live finish code rest → Fine code
+      → ((ys : List Name) (code middle : Code) → TrArgumentsIn w vars (objects ns) ns live ys code middle → Fine last middle → Fine last code)
+      → ((c : CCall) → FineCall c c_ty.Obj → Fine last (finish c)) → Fine last rest
+      → TrCounted w.in_module (scope_in w) vars right f (λ ys code middle. TrArgumentsIn w vars (objects ns) ns live ys code middle) ns live finish code rest → Fine last code
   fine_counted true g f ns live finish code rest counted found evaluated finished end t =
       fine_applied (objects ns) ns live (λ args. finish (call_of (c_name_of f) args)) code evaluated
       (λ args h. finished (call_of (c_name_of f) args)
       (fine_function g f args found (subst (λ ws. FineArgs ws args) (objects_want ns f.params (eqb-true (count ns) f.params counted)) h)))
       t
   fine_counted false g f ns live finish code rest counted found evaluated finished end t =
-      evaluated t.temporaries code t.middle t.values (subst Fine (sym t.is) (fine_statement (raise_count f.params) c_ty.Int rest (fine_raise f.params) end))
+      evaluated t.temporaries code t.middle t.values (subst (Fine _) (sym t.is) (fine_statement (raise_count f.params) c_ty.Int rest (fine_raise f.params) end))
 
-  fine_called : (o : Option Callee) (g : GlobalRef) (ns : Trees) (live : List Name) (finish : CCall → Code) (code rest : Code) → callee_of w.in_module g ≡ o
-      → ((ys : List Name) (code middle : Code) → TrArgumentsIn w vars (objects ns) ns live ys code middle → Fine middle → Fine code)
-      → ((c : CCall) → FineCall c c_ty.Obj → Fine (finish c)) → Fine rest
-      → TrCall w.in_module (scope_in w) vars o (λ ys code middle. TrArgumentsIn w vars (objects ns) ns live ys code middle) ns live finish code rest → Fine code
+  fine_called : {last : Bool} (o : Option Callee) (g : GlobalRef) (ns : Trees) (live : List Name) (finish : CCall → Code) (code rest : Code) → callee_of w.in_module g ≡ o
+      → ((ys : List Name) (code middle : Code) → TrArgumentsIn w vars (objects ns) ns live ys code middle → Fine last middle → Fine last code)
+      → ((c : CCall) → FineCall c c_ty.Obj → Fine last (finish c)) → Fine last rest
+      → TrCall w.in_module (scope_in w) vars o (λ ys code middle. TrArgumentsIn w vars (objects ns) ns live ys code middle) ns live finish code rest → Fine last code
   fine_called None g ns live finish code rest found evaluated finished end t = absurd t
   fine_called (Some f) g ns live finish code rest found evaluated finished end t = fine_counted (is_counted f ns) g f ns live finish code rest refl found evaluated finished end t
 
   -- Nodes -----------------------------------------------------------------------------------
 
-  fine_literal : (o : Option CExpr) (k : Const) (h : Rep) (place : Place) (code rest : Code) → constant_expr k h ≡ o → IsNode w (Constant k)
-      → TrConstant w.in_module (scope_in w) vars o place code rest → PlaceFits place h → Fine rest → Fine code
+  fine_literal : {last : Bool} (o : Option CExpr) (k : Const) (h : Rep) (place : Place) (code rest : Code) → constant_expr k h ≡ o → IsNode w (Constant k)
+      → TrConstant w.in_module (scope_in w) vars o place code rest → PlaceFits place h → Fine last rest → Fine last code
   fine_literal None k h place code rest is x t l g = absurd t
-  fine_literal (Some e) k h place code rest is x t l g = subst Fine (sym t) (fine_deliver place h e rest l (fine_constant k h e x is) g)
+  fine_literal (Some e) k h place code rest is x t l g = subst (Fine _) (sym t) (fine_deliver place h e rest l (fine_constant k h e x is) g)
 
-  fine_variable : (o : Option Slot) (x : VarId) (h : Rep) (place : Place) (code rest : Code) → slot_of x (scope_in w) ≡ o
-      → TrVariable w.in_module (scope_in w) vars o h place code rest → PlaceFits place h → Fine rest → Fine code
+  fine_variable : {last : Bool} (o : Option Slot) (x : VarId) (h : Rep) (place : Place) (code rest : Code) → slot_of x (scope_in w) ≡ o
+      → TrVariable w.in_module (scope_in w) vars o h place code rest → PlaceFits place h → Fine last rest → Fine last code
   fine_variable None x h place code rest found t l g = absurd t
   fine_variable (Some (PlainAt r y)) x h place code rest found t l g =
       let there : IsLocal vars y (c_type_of h) = subst (λ k. IsLocal vars y (c_type_of k)) (sym t.0) (grounds.scoped x r y found) in
-      subst Fine (sym t.1) (fine_deliver place h (expr.Atom (atom.Name y)) rest l (fine_local y (c_type_of h) there) g)
+      subst (Fine _) (sym t.1) (fine_deliver place h (expr.Atom (atom.Name y)) rest l (fine_local y (c_type_of h) there) g)
 
-  fine_variable_unused : (o : Option Slot) (code rest : Code) → TrVariableUnused w.in_module (scope_in w) vars o code rest → Fine rest → Fine code
+  fine_variable_unused : {last : Bool} (o : Option Slot) (code rest : Code) → TrVariableUnused w.in_module (scope_in w) vars o code rest → Fine last rest → Fine last code
   fine_variable_unused None code rest t g = absurd t
-  fine_variable_unused (Some slot) code rest t g = subst Fine (sym t) g
+  fine_variable_unused (Some slot) code rest t g = subst (Fine _) (sym t) g
 
   -- a value's statements are right before a right rest
-  abbrev AllFine : Statements → Rep → Type 0
-  AllFine given h = (place : Place) (code rest : Code) → given place code rest → PlaceFits place h → Fine rest → Fine code
+  abbrev AllFine : Bool → Statements → Rep → Type 0
+  AllFine last given h = (place : Place) (code rest : Code) → given place code rest → PlaceFits place h → Fine last rest → Fine last code
 
-  fine_coerced : (h : Rep) (given : Statements) (live : List Name) (place : Place) (code rest : Code) → AllFine given h → PlaceFits place Obj → Coerced vars h Obj given live place code rest → Fine rest → Fine code
+  fine_coerced : {last : Bool} (h : Rep) (given : Statements) (live : List Name) (place : Place) (code rest : Code) → AllFine last given h → PlaceFits place Obj → Coerced vars h Obj given live place code rest → Fine last rest → Fine last code
   fine_coerced Obj given live place code rest each l c g = each place code rest c l g
   fine_coerced Long given live place code rest each l c g =
       each (into c.temporary) code c.middle c.value c.is_local
-      (subst Fine (sym c.box) (fine_deliver place Obj (expr.Call (operation BoxLong (local c.temporary ∷ []))) rest l (fine_on BoxLong c.temporary c_ty.Long refl c.is_local) g))
+      (subst (Fine _) (sym c.box) (fine_deliver place Obj (expr.Call (operation BoxLong (local c.temporary ∷ []))) rest l (fine_on BoxLong c.temporary c_ty.Long refl c.is_local) g))
   fine_coerced Truth_rep given live place code rest each l c g =
       each (into c.temporary) code c.middle c.value c.is_local
-      (subst Fine (sym c.box) (fine_deliver place Obj (expr.Call (operation BoxBool (local c.temporary ∷ []))) rest l (fine_on BoxBool c.temporary c_ty.Int refl c.is_local) g))
+      (subst (Fine _) (sym c.box) (fine_deliver place Obj (expr.Call (operation BoxBool (local c.temporary ∷ []))) rest l (fine_on BoxBool c.temporary c_ty.Int refl c.is_local) g))
 
-  fine_branches : (h : Rep) (given : Statements) (live : List Name) (one other : Code → Type 0) (code rest : Code) → AllFine given h → ((code : Code) → one code → Fine code) → ((code : Code) → other code → Fine code)
-      → Branches vars h given live one other code rest → Fine rest → Fine code
+  fine_branches : {last : Bool} (h : Rep) (given : Statements) (live : List Name) (one other : Code → Type 0) (code rest : Code) → AllFine last given h → ((code : Code) → one code → Fine false code) → ((code : Code) → other code → Fine false code)
+      → Branches vars h given live one other code rest → Fine last rest → Fine last code
   fine_branches h given live one other code rest each first second t g =
       each (into t.temporary) code t.middle t.given t.is_local
-      (subst Fine (sym t.is)
+      (subst (Fine _) (sym t.is)
       (fine_test (condition h t.temporary) t.first t.second rest (fine_condition h t.temporary t.is_local) (first t.first t.taken) (second t.second t.else_taken) g))
 
   mutual
     unfolding Tr TrArguments
 
-    fine_tr : (n : Tree) → IsNode w n → (h : Rep) (live : List Name) (place : Place) (code rest : Code) → TrIn w vars n h live place code rest → PlaceFits place h → Fine rest → Fine code
+    fine_tr : {last : Bool} (n : Tree) → IsNode w n → (h : Rep) (live : List Name) (place : Place) (code rest : Code) → TrIn w vars n h live place code rest → PlaceFits place h → Fine last rest → Fine last code
     fine_tr (Constant k) x h live place code rest t l g = fine_literal (constant_expr k h) k h place code rest refl x t l g
     fine_tr (Variable v) x h live place code rest t l g = fine_variable (slot_of v (scope_in w)) v h place code rest refl t l g
     fine_tr (If a b c) x h live place code rest t l g =
@@ -405,16 +423,16 @@ module _ (w : Setting) (sigs : List Signature) (vars : List CVar) (grounds : Gro
         (subst (λ k. FineExpr (expr.Call (operation (Does p) args)) (c_type_of k)) (sym t.0) (fine_call (operation (Does p) args) (c_type_of (rep_of (result_of p))) (fine_primitive p args f))) g)
         t.1
 
-    fine_arguments : (ns : Trees) → AreNodes w ns → (ts : List Ty) (live ys : List Name) (code rest : Code) → TrArgumentsIn w vars ts ns live ys code rest → Fine rest → Fine code
-    fine_arguments none x [] live ys code rest a g = subst Fine (sym a.1) g
+    fine_arguments : {last : Bool} (ns : Trees) → AreNodes w ns → (ts : List Ty) (live ys : List Name) (code rest : Code) → TrArgumentsIn w vars ts ns live ys code rest → Fine last rest → Fine last code
+    fine_arguments none x [] live ys code rest a g = subst (Fine _) (sym a.1) g
     fine_arguments none x (t ∷ ts) live ys code rest a g = absurd a
     fine_arguments (more n ns) x [] live ys code rest a g = absurd a
     fine_arguments (more n ns) x (t ∷ ts) live ys code rest a g =
         fine_tr n x.0 (has_of (scope_in w) n (rep_of t)) live (into a.first) code a.middle a.given a.is_local (fine_arguments ns x.1 ts (a.first ∷ live) a.rest a.middle rest a.all g)
 
-  fine_unused : (n : Tree) → IsNode w n → (live : List Name) (code rest : Code) → TrUnusedIn w vars n live code rest → Fine rest → Fine code
+  fine_unused : {last : Bool} (n : Tree) → IsNode w n → (live : List Name) (code rest : Code) → TrUnusedIn w vars n live code rest → Fine last rest → Fine last code
   unfolding TrUnused
-  fine_unused (Constant c) x live code rest t g = subst Fine (sym t) g
+  fine_unused (Constant c) x live code rest t g = subst (Fine _) (sym t) g
   fine_unused (Variable v) x live code rest t g = fine_variable_unused (slot_of v (scope_in w)) code rest t g
   fine_unused (If a b c) x live code rest t g =
       fine_branches (has_of (scope_in w) a Truth_rep) (λ place code rest. TrIn w vars a (has_of (scope_in w) a Truth_rep) live place code rest) live
@@ -429,10 +447,15 @@ module _ (w : Setting) (sigs : List Signature) (vars : List CVar) (grounds : Gro
       fine_applied (params_of p) ns live (λ args. call (operation (Does p) args) rest) code (λ ys code middle a f. fine_arguments ns x.1 (params_of p) live ys code middle a f)
       (λ args f. fine_statement (operation (Does p) args) (c_type_of (rep_of (result_of p))) rest (fine_primitive p args f) g) t
 
-  pub fine_last : (ts : Trees) → AreNodes w ts → (live : List Name) (code rest : Code) → TrLastIn w vars ts Obj live back code rest → Fine rest → Fine code
+  pub fine_last : {last : Bool} (ts : Trees) → AreNodes w ts → (live : List Name) (code rest : Code) → TrLastIn w vars ts Obj live back code rest → Fine last rest → Fine last code
   unfolding TrLast
   fine_last none x live code rest t g = absurd t
   fine_last (more n none) x live code rest t g =
       fine_coerced (has_of (scope_in w) n Obj) (λ place code rest. TrIn w vars n (has_of (scope_in w) n Obj) live place code rest) live back code rest
       (λ place code rest t l f. fine_tr n x.0 (has_of (scope_in w) n Obj) live place code rest t l f) refl t g
   fine_last (more n (more u us)) x live code rest t g = fine_unused n x.0 live code t.middle t.one (fine_last (more u us) x.1 live t.middle rest t.all g)
+
+  pub fine_all_unused : {last : Bool} (ts : Trees) → AreNodes w ts → (live : List Name) (code rest : Code) → TrAllUnusedIn w vars ts live code rest → Fine last rest → Fine last code
+  unfolding TrAllUnused
+  fine_all_unused none x live code rest t g = subst (Fine _) (sym t) g
+  fine_all_unused (more n ns) x live code rest t g = fine_unused n x.0 live code t.middle t.one (fine_all_unused ns x.1 live t.middle rest t.all g)

@@ -5,12 +5,12 @@ use Rattle.c_tree.specs.declared.tree.CExpr.{CExpr}
 use Rattle.c_tree.specs.declared.tree.CVar.{CVar}
 use Rattle.c_tree.specs.declared.pieces.Piece.{Piece}
 use Rattle.c_tree.specs.declared.pieces.Piece.TheVariants as piece
-use Rattle.c_tree.specs.Code.{Code, done, assign, call, test}
+use Rattle.c_tree.specs.Code.{Code, done, assign, call, test, loop}
 use Rattle.c_tree.specs.Names.{local_name}
 use Rattle.c_tree.specs.Pieces.{pieces}
 use Rattle.plan_rules.specs.declared.rep.Rep.{Rep}
 use Rattle.plan_rules.specs.Representation.{c_type_of}
-use Rattle.plan_rules.specs.Translation.{IsLocal, deliver}
+use Rattle.plan_rules.specs.Translation.{Name, IsLocal, deliver}
 use Rattle.code_gen.specs.declared.emitter.Emitter.{Emitter}
 use Rattle.code_gen.specs.declared.emitter.Place.{Place as Target}
 use Rattle.code_gen.specs.declared.emitter.Place.TheVariants.{Into, Back}
@@ -20,7 +20,7 @@ use Rattle.code_gen.proofs.Counts.{counted_one, locals_before, local_last}
 abbrev pub Means : Type 1
 Means = List CVar → Code → Code → Type 0
 
-pub grows_then : (s t u : Emitter) → Grows s t → Grows t u → Grows s u
+grows_then : (s t u : Emitter) → Grows s t → Grows t u → Grows s u
 grows_then s t u one two = record {
   later = let a : s.next ≤ t.next = one.later in let b : t.next ≤ u.next = two.later in omega arith;
   small = λ h. two.small (one.small h);
@@ -78,7 +78,7 @@ local_emits s t h x a =
 
 -- A piece -----------------------------------------------------------------------------------
 
-pub put_grows : (s t : Emitter) (one : Piece) → Puts s t one → Grows s t
+put_grows : (s t : Emitter) (one : Piece) → Puts s t one → Grows s t
 put_grows s t one p = record {
   later = let m : t.next ≡ s.next = p.next_is in omega arith;
   small = λ h. let m : t.next ≡ s.next = p.next_is in omega arith;
@@ -87,7 +87,7 @@ put_grows s t one p = record {
 }
 
 -- a piece is in front of what comes after it
-pub put_front : (s t : Emitter) (one : Piece) (others : List Piece) → Puts s t one → s.pieces ++ one ∷ others ≡ t.pieces ++ others
+put_front : (s t : Emitter) (one : Piece) (others : List Piece) → Puts s t one → s.pieces ++ one ∷ others ≡ t.pieces ++ others
 put_front s t one others p = sym (append_assoc s.pieces (one ∷ []) others) ∙ ap (λ ps. ps ++ others) (sym p.pieces_are)
 
 put_emits : (s t : Emitter) (one : Piece) (wrap : Code → Code) → ((rest : Code) (out : List Piece) → pieces (wrap rest) out ≡ one ∷ pieces rest out) → Puts s t one
@@ -158,5 +158,26 @@ blocks s t u v x y e A B opens one turns other closes = record {
             ∙ put_front u v piece.Else (pieces b.code after_other) turns ∙ b.is after_other
             ∙ put_front x y piece.End (pieces rest out) closes;
         meant = record { first = a.code; second = b.code; is = refl; taken = a.meant; else_taken = b.meant };
+      };
+}
+
+-- One loop ----------------------------------------------------------------------------------
+
+pub record Looped (l : Name) (one : Code → Type 0) (code rest : Code) : Type 0 where
+  pub body : Code
+  pub is : code ≡ loop l body rest
+  pub inside : one body
+
+pub loops : (s t u v : Emitter) (l : Name) (A : Means) → Puts s t (piece.Loop l) → Emits t u A → Puts u v piece.End → Emits s v (λ vars code rest. Looped l (λ body. A vars body done) code rest)
+loops s t u v l A opens one closes = record {
+  grows = grows_then s t v (put_grows s t (piece.Loop l) opens) (grows_then t u v one.grows (put_grows u v piece.End closes));
+  code = λ vars k rest.
+      let a = one.code vars ((put_grows u v piece.End closes).kept vars k) done in
+      record {
+        code = loop l a.code rest;
+        is = λ out.
+            let after : List Piece = piece.End ∷ pieces rest out in
+            put_front s t (piece.Loop l) (pieces a.code after) opens ∙ a.is after ∙ put_front u v piece.End (pieces rest out) closes;
+        meant = record { body = a.code; is = refl; inside = a.meant };
       };
 }

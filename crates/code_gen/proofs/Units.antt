@@ -3,8 +3,7 @@ use Rattle.std.proofs.Common.{◌≡◌, ℕ, zero, suc, ◌+◌, ◌<◌, true,
 use Rattle.std.specs.Prelude.{◌&&◌, IsTrue}
 use Rattle.std.proofs.lemmas.Bool.{and_from}
 use Rattle.std.proofs.lemmas.List.{map-append, take_more}
-use Rattle.core_tree.specs.Tree.{FunctionTree, ModuleTree, Callee, own_callee, row_callee, used_callees, function_tree}
-use Rattle.core_tree.specs.declared.tree.Top.{Top}
+use Rattle.core_tree.specs.Tree.{FunctionTree, ModuleTree, Callee, own_callee, row_callee, used_callees}
 use Rattle.core_tree.specs.declared.tree.Use.{Use}
 use Rattle.core_tree.specs.declared.tree.Use.TheVariants.{From, Need}
 use Rattle.core_tree.specs.WellFormed.{IsFunction, AreFunctions, IsWellFormed}
@@ -13,14 +12,17 @@ use Rattle.c_tree.specs.declared.function.CItem.{CItem}
 use Rattle.c_tree.specs.declared.function.CItem.TheVariants.{Defined}
 use Rattle.c_tree.specs.Code.{Fun, Item, defined}
 use Rattle.c_tree.specs.Functions.{fun_of, item_of, items_of}
-use Rattle.c_tree.specs.Names.{function_name, maker_name, initializer_name}
+use Rattle.c_tree.specs.Names.{function_name, maker_name}
 use Rattle.c_tree.specs.Spelling.{NamedItems}
-use Rattle.c_meaning.specs.Checked.{Signature, signature_of, role_of, function_fits, callable, agrees, are_distinct, items_fit, defined_names}
+use Rattle.c_meaning.specs.Checked.{Signature, signature_of, Role, Initializer, Function, role_of, function_fits, may_call, callable, agrees, are_distinct, items_fit, defined_names}
 use Rattle.plan_rules.specs.Translation.{Name, c_name_of, IsEmpty, TrFunctions, callees, AreDeclared, outside_of, is_sound_with, Translated}
-use Rattle.code_gen.specs.Emission.{IsFunctionOf, declaration, own_callees, declarations_of, AreFunctionsOf, AddsFunctions}
+use Rattle.code_gen.specs.declared.callees.OwnFunction.{OwnFunction}
+use Rattle.code_gen.specs.Callees.{function_of}
+use Rattle.code_gen.specs.Emission.{IsFunctionOf, IsInitialization, declaration, own_callees, declarations_of, AreFunctionsOf, AddsFunctions}
 use Rattle.code_gen.proofs.Soundness.{signature}
-use Rattle.code_gen.proofs.Declared.{Has, Within, has_before, has_turned, contained, own_has, is_function, names_of, named_maker, named_initializer, callees_named, named_at, callees_distinct, defined_distinct, agree, all_callable}
-use Rattle.code_gen.proofs.Empty.{last_items, last_named, last_translated, last_spelled, last_fit}
+use Rattle.code_gen.proofs.Declared.{Has, Within, has_before, has_turned, contained, own_has, is_function, names_of, callees_named, named_at, callees_distinct, defined_distinct, agree, all_callable}
+use Rattle.code_gen.proofs.Straight.{last_items, last_named, last_translated, last_spelled, last_fit}
+use Rattle.code_gen.proofs.OwnFunctions.{own_more}
 use Rattle.code_gen.proofs.Functions.{Fits, function_fits_module}
 use Rattle.code_gen.proofs.Roles.{last_names}
 
@@ -32,16 +34,14 @@ one_more m (h ∷ hs) (k ∷ ks) f g all one = (all.0, one_more m hs ks f g all.
 one_more m [] (k ∷ ks) f g all one = absurd all
 one_more m (h ∷ hs) [] f g all one = absurd all
 
-pub adds_one : (m : ModuleTree) (tops : List Top) (i : ℕ) (top : Top) (before middle after : List Item) (g : Fun) → i < length tops → top ≡ get_or tops i top
-    → AddsFunctions m (map function_tree (take i tops)) before middle → IsFunctionOf m (function_tree top) g → after ≡ middle ++ defined g ∷ []
-    → AddsFunctions m (map function_tree (take (i + 1) tops)) before after
-adds_one m tops i top before middle after g within top_is so one e =
-    let fs : map function_tree (take (i + 1) tops) ≡ map function_tree (take i tops) ++ function_tree top ∷ [] =
-    ap (map function_tree) (take_more tops i top within ∙ ap (λ (t : Top). take i tops ++ t ∷ []) (sym top_is)) ∙ map-append function_tree (take i tops) (top ∷ []) in
+pub adds_one : (m : ModuleTree) (ds : List OwnFunction) (i : ℕ) (d : OwnFunction) (before middle after : List Item) (g : Fun) → i < length ds → d ≡ get_or ds i d
+    → AddsFunctions m (map function_of (take i ds)) before middle → IsFunctionOf m (function_of d) g → after ≡ middle ++ defined g ∷ []
+    → AddsFunctions m (map function_of (take (i + 1) ds)) before after
+adds_one m ds i d before middle after g within d_is so one e =
     record {
       added = so.added ++ g ∷ [];
       is = e ∙ ap (λ is. is ++ defined g ∷ []) so.is ∙ append_assoc before (map defined so.added) (defined g ∷ []) ∙ ap (λ is. before ++ is) (sym (map-append defined so.added (g ∷ [])));
-      are = subst (λ hs. AreFunctionsOf m hs (so.added ++ g ∷ [])) (sym fs) (one_more m (map function_tree (take i tops)) so.added (function_tree top) g so.are one);
+      are = subst (λ hs. AreFunctionsOf m hs (so.added ++ g ∷ [])) (sym (own_more ds i d within d_is)) (one_more m (map function_of (take i ds)) so.added (function_of d) g so.are one);
     }
 
 pub pushed_item : (before after : List CItem) (g : CFun) → after ≡ before ++ Defined g ∷ [] → items_of after ≡ items_of before ++ defined (fun_of g) ∷ []
@@ -52,15 +52,14 @@ pub pushed_two : (before middle after : List CItem) (g h : CFun) → middle ≡ 
 pushed_two before middle after g h first second =
     pushed_item middle after h second ∙ ap (λ is. is ++ defined (fun_of h) ∷ []) (pushed_item before middle g first) ∙ append_assoc (items_of before) (defined (fun_of g) ∷ []) (defined (fun_of h) ∷ [])
 
--- a function at a place is one of the module
-function_got : (m : ModuleTree) (fs : List FunctionTree) (tops : List Top) (i : ℕ) (d : Top) → fs ≡ map function_tree tops → i < length tops → AreFunctions m fs → IsFunction m (function_tree (get_or tops i d))
-function_got m fs [] i d e within all = absurd (omega arith)
-function_got m [] (t ∷ ts) i d e within all = absurd (cc)
-function_got m (f ∷ fs) (t ∷ ts) zero d e within all = let same : f ≡ function_tree t = cc in subst (IsFunction m) same all.0
-function_got m (f ∷ fs) (t ∷ ts) (suc i) d e within all = let others : fs ≡ map function_tree ts = cc in function_got m fs ts i d others (omega arith) all.1
+function_got : (m : ModuleTree) (ds : List OwnFunction) (i : ℕ) (d : OwnFunction) → i < length ds → AreFunctions m (map function_of ds) → IsFunction m (function_of (get_or ds i d))
+function_got m [] i d within all = absurd (omega arith)
+function_got m (e ∷ es) zero d within all = all.0
+function_got m (e ∷ es) (suc i) d within all = function_got m es i d (omega arith) all.1
 
-pub function_at : (m : ModuleTree) (tops : List Top) (i : ℕ) (top : Top) → i < length tops → top ≡ get_or tops i top → AreFunctions m (map function_tree tops) → IsFunction m (function_tree top)
-function_at m tops i top within top_is all = subst (λ (t : Top). IsFunction m (function_tree t)) (sym top_is) (function_got m (map function_tree tops) tops i top refl within all)
+-- a function at a place is one of the module
+pub function_at : (m : ModuleTree) (fs : List FunctionTree) (ds : List OwnFunction) (i : ℕ) (d : OwnFunction) → map function_of ds ≡ fs → i < length ds → d ≡ get_or ds i d → AreFunctions m fs → IsFunction m (function_of d)
+function_at m fs ds i d are within d_is all = subst (λ (e : OwnFunction). IsFunction m (function_of e)) (sym d_is) (function_got m ds i d within (subst (AreFunctions m) (sym are) all))
 
 -- Uses are declared -------------------------------------------------------------------------
 
@@ -107,7 +106,7 @@ stacked_within : (all cs ds : List Callee) → Within cs all → Within ds all �
 stacked_within all [] ds some within = within
 stacked_within all (c ∷ cs) ds some within = stacked_within all cs (c ∷ ds) (λ h j. some h (inr j)) (with_one all ds c (some c (inl refl)) within)
 
-module _ (m : ModuleTree) (w : IsWellFormed m) (maker initializer : Fun) (made : IsEmpty (maker_name m.name) maker) (initialized : IsEmpty (initializer_name m.name) initializer) where
+module _ (m : ModuleTree) (w : IsWellFormed m) (maker initializer : Fun) (made : IsEmpty (maker_name m.name) maker) (initialized : IsInitialization m initializer) where
   abbrev signatures : List Callee → List Signature
   signatures cs = map signature cs
 
@@ -119,13 +118,16 @@ module _ (m : ModuleTree) (w : IsWellFormed m) (maker initializer : Fun) (made :
   names = names_of there ++ last_names m.name
 
   abbrev last : List Item
-  last = last_items m maker initializer made initialized
+  last = last_items m w maker initializer made initialized
 
   own : (f : FunctionTree) → Has f m.functions → Has (own_callee m.name f) (callees m)
   own f h = has_before (own_callee m.name f) (own_callees m) (used_callees m.uses) (own_has m.name m.functions f h)
 
   all_there : (ds : List Callee) → Within ds (callees m) → Within ds there
   all_there ds within = λ c h. has_turned c (own_callees m) (used_callees m.uses) (within c h)
+
+  callable_here : (r : Role) → may_call r Function ≡ true → (ds : List Callee) → Within ds (callees m) → callable r names (signatures ds) ≡ signatures ds
+  callable_here r may ds within = all_callable r may there (last_names m.name) ds (all_there ds within)
 
   agrees_here : (c : Callee) (ds : List Callee) → Has c (callees m) → Within ds (callees m) → agrees (signatures ds) (signature c) ≡ true
   agrees_here c ds here within = agree (callees m) (callees_distinct m w) c ds here within
@@ -145,7 +147,7 @@ module _ (m : ModuleTree) (w : IsWellFormed m) (maker initializer : Fun) (made :
   defined_one f ds g rest here within one others =
       let s = signature_of (defined g) in
       let may : function_fits (callable (role_of g.name) names (signatures ds)) g ≡ true =
-      ap (λ r. function_fits (callable r names (signatures ds)) g) one.role ∙ ap (λ sigs. function_fits sigs g) (all_callable there (last_names m.name) ds (all_there ds within)) ∙ one.fits in
+      ap (λ r. function_fits (callable r names (signatures ds)) g) one.role ∙ ap (λ sigs. function_fits sigs g) (callable_here Function refl ds within) ∙ one.fits in
       let same : agrees (signatures ds) s ≡ true = ap (agrees (signatures ds)) one.signature_is ∙ agrees_here (own_callee m.name f) ds (own f here) within in
       let end : items_fit names (s ∷ signatures ds) rest ≡ true = subst (λ t. items_fit names (t ∷ signatures ds) rest ≡ true) (sym one.signature_is) others in
       and_from (agrees (signatures ds) s && function_fits (callable (role_of g.name) names (signatures ds)) g) (items_fit names (s ∷ signatures ds) rest)
@@ -153,7 +155,7 @@ module _ (m : ModuleTree) (w : IsWellFormed m) (maker initializer : Fun) (made :
 
   defined_fit : (fs : List FunctionTree) (ds : List Callee) (gs : List Fun) → Within fs m.functions → Within ds (callees m) → Within (callees m) ds → AreFunctionsOf m fs gs
       → items_fit names (signatures ds) (map defined gs ++ last) ≡ true
-  defined_fit [] ds [] some within covers all = last_fit m maker initializer made initialized (named_maker m.name w.name) (named_initializer m.name w.name) names ds
+  defined_fit [] ds [] some within covers all = last_fit m w maker initializer made initialized ds within covers names (callable_here Initializer refl ds within)
   defined_fit [] ds (g ∷ gs) some within covers all = absurd all
   defined_fit (f ∷ fs) ds [] some within covers all = absurd all
   defined_fit (f ∷ fs) ds (g ∷ gs) some within covers all =
@@ -167,7 +169,7 @@ module _ (m : ModuleTree) (w : IsWellFormed m) (maker initializer : Fun) (made :
   declared_names (c ∷ cs) rest = declared_names cs rest
 
   names_are : (fs : List FunctionTree) (gs : List Fun) → AreFunctionsOf m fs gs → defined_names (map defined gs ++ last) ≡ names_of (map (own_callee m.name) fs) ++ last_names m.name
-  names_are [] [] all = last_named m maker initializer made initialized
+  names_are [] [] all = last_named m w maker initializer made initialized
   names_are [] (g ∷ gs) all = absurd all
   names_are (f ∷ fs) [] all = absurd all
   names_are (f ∷ fs) (g ∷ gs) all = ap (λ x. x ∷ defined_names (map defined gs ++ last)) all.0.name_is ∙ ap (λ xs. function_name m.name f.name ∷ xs) (names_are fs gs all.1)
@@ -209,7 +211,7 @@ module _ (m : ModuleTree) (w : IsWellFormed m) (maker initializer : Fun) (made :
   one_fits f g here is = function_fits_module m w before f g before_within covered (is_function m m.functions f w.functions here) is
 
   named_definitions : (fs : List FunctionTree) (gs : List Fun) → Within fs m.functions → AreFunctionsOf m fs gs → NamedItems (map defined gs ++ last)
-  named_definitions [] [] some all = last_spelled m maker initializer made initialized (named_maker m.name w.name) (named_initializer m.name w.name)
+  named_definitions [] [] some all = last_spelled m w maker initializer made initialized before before_within covered
   named_definitions [] (g ∷ gs) some all = absurd all
   named_definitions (f ∷ fs) [] some all = absurd all
   named_definitions (f ∷ fs) (g ∷ gs) some all = ((one_fits f g (some f (inl refl)) all.0).named, named_definitions fs gs (λ h j. some h (inr j)) all.1)
@@ -219,7 +221,7 @@ module _ (m : ModuleTree) (w : IsWellFormed m) (maker initializer : Fun) (made :
   named_all (c ∷ cs) rest some end = (named_at (callees m) c (callees_named m w) (some c (inl refl)), named_all cs rest (λ h j. some h (inr j)) end)
 
   translated_definitions : (fs : List FunctionTree) (gs : List Fun) → Within fs m.functions → AreFunctionsOf m fs gs → TrFunctions m fs (map defined gs ++ last)
-  translated_definitions [] [] some all = last_translated m maker initializer made initialized
+  translated_definitions [] [] some all = last_translated m w maker initializer made initialized
   translated_definitions [] (g ∷ gs) some all = absurd all
   translated_definitions (f ∷ fs) [] some all = absurd all
   translated_definitions (f ∷ fs) (g ∷ gs) some all = ((one_fits f g (some f (inl refl)) all.0).translated, translated_definitions fs gs (λ h j. some h (inr j)) all.1)

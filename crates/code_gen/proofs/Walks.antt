@@ -1,14 +1,16 @@
 -- Values that nobody takes, and a body's parts in order.
-use Rattle.std.proofs.Common.{◌≡◌, ℕ, suc, ◌+◌, ◌<◌, ◌≤◌, List, [], ◌∷◌, length, map, drop, get_or, Some, None, sym, ap, ◌∙◌, subst, arith, add-one}
+use Rattle.std.proofs.Common.{◌≡◌, ℕ, zero, suc, ◌+◌, ◌<◌, ◌≤◌, List, [], ◌∷◌, ◌++◌, length, map, take, drop, get_or, Some, None, refl, sym, ap, ◌∙◌, subst, arith, add-one}
 use Rattle.std.proofs.Math.Seq.{drop-cons}
-use Rattle.std.proofs.lemmas.List.{drop_all}
+use Rattle.std.proofs.lemmas.List.{drop_all, take_more}
 use Rattle.prim_table.specs.declared.primitives.Primitive.{Primitive as Builtin}
 use Rattle.prim_table.specs.Table.{params_of}
 use Rattle.core_tree.specs.declared.tree.Const.{Const}
 use Rattle.core_tree.specs.declared.tree.VarId.{VarId}
 use Rattle.core_tree.specs.declared.tree.GlobalRef.{GlobalRef}
 use Rattle.core_tree.specs.declared.tree.Node.{Node}
-use Rattle.core_tree.specs.Tree.{Tree, Constant, Variable, If, Sequence, Call, Primitive, Trees, trees, tree}
+use Rattle.core_tree.specs.declared.tree.Top.{Top}
+use Rattle.core_tree.specs.declared.tree.Top.TheVariants.{Function, Form}
+use Rattle.core_tree.specs.Tree.{Tree, Constant, Variable, If, Sequence, Call, Primitive, Trees, none, more, trees, tree, forms_in}
 use Rattle.c_tree.specs.declared.tree.CCall.{CCall}
 use Rattle.c_tree.specs.declared.tree.CExpr.{CExpr}
 use Rattle.c_tree.specs.declared.tree.CVar.{CVar}
@@ -16,11 +18,11 @@ use Rattle.c_tree.specs.declared.pieces.Piece.TheVariants as piece
 use Rattle.c_tree.specs.Code.{Code, done, call}
 use Rattle.plan_rules.specs.declared.rep.Rep.TheVariants.{Obj, Bool as Truth_rep}
 use Rattle.plan_rules.specs.Representation.{PlainAt, slot_of, has_of}
-use Rattle.plan_rules.specs.Translation.{Name, back, Branches, objects, Tr, TrLast}
+use Rattle.plan_rules.specs.Translation.{Name, back, Branches, objects, Tr, TrAllUnused, TrLast}
 use Rattle.code_gen.specs.declared.emitter.Emitter.{Emitter}
 use Rattle.code_gen.specs.declared.emitter.Place.TheVariants.{Back}
-use Rattle.code_gen.specs.Settings.{Setting, scope_in, TrIn, TrUnusedIn, TrLastIn}
-use Rattle.code_gen.specs.Emission.{AreBelow, Puts, Emits, IsTested, IsPrimitiveCall, IsCounted, IsMiscounted, IsFunctionCall, IsUnused, Delivered, IsDelivered, IsBodyOf}
+use Rattle.code_gen.specs.Settings.{Setting, scope_in, AreNodes, TrIn, TrUnusedIn, TrAllUnusedIn, TrLastIn}
+use Rattle.code_gen.specs.Emission.{AreBelow, Puts, Emits, IsTested, IsPrimitiveCall, IsCounted, IsMiscounted, IsFunctionCall, IsUnused, AreUnused, Delivered, IsDelivered, IsBodyOf}
 use Rattle.code_gen.proofs.Counts.{below_more}
 use Rattle.code_gen.proofs.Steps.{Means, same, then, weaker, call_emits}
 use Rattle.code_gen.proofs.Related.{unused_constant_is, unused_variable_is, unused_if_is, unused_primitive_is, unused_counted_is, unused_miscounted_is}
@@ -32,6 +34,9 @@ module _ (w : Setting) where
 
   abbrev Unused : ℕ → Tree → Means
   Unused next n vars code rest = (live : List Name) → AreBelow next live → TrUnusedIn w vars n live code rest
+
+  abbrev AllUnused : ℕ → Trees → Means
+  AllUnused next ns vars code rest = (live : List Name) → AreBelow next live → TrAllUnusedIn w vars ns live code rest
 
   pub unused_constant : (s : Emitter) (k : Const) → IsUnused w s s (Constant k)
   unused_constant s k = record {
@@ -79,6 +84,48 @@ module _ (w : Setting) where
         tested opens one.emits turns other.emits closes)
         (λ vars code rest p live below. unused_if_is w vars a b c live code rest (p live below));
   }
+
+  -- Forms -----------------------------------------------------------------------------------
+
+  pub unused_none : (s : Emitter) → AreUnused w s s none
+  unfolding TrAllUnused
+  unused_none s = record {
+    emits = weaker s s (λ vars code rest. code ≡ rest) (AllUnused s.next none) (same s) (λ vars code rest e live b. e);
+  }
+
+  pub unused_alone : (s t : Emitter) (n : Tree) → IsUnused w s t n → AreUnused w s t (more n none)
+  unfolding TrAllUnused
+  unused_alone s t n one = record {
+    emits = weaker s t (Unused s.next n) (AllUnused s.next (more n none)) one.emits (λ vars code rest a live b. record { middle = rest; one = a live b; all = refl });
+  }
+
+  unused_append : (vars : List CVar) (xs ys : List Top) (live : List Name) (code middle rest : Code)
+      → TrAllUnusedIn w vars (forms_in xs) live code middle → TrAllUnusedIn w vars (forms_in ys) live middle rest → TrAllUnusedIn w vars (forms_in (xs ++ ys)) live code rest
+  unfolding TrAllUnused
+  unused_append vars [] ys live code middle rest a b = subst (λ k. TrAllUnusedIn w vars (forms_in ys) live k rest) (sym a) b
+  unused_append vars (Function name lambda ∷ xs) ys live code middle rest a b = unused_append vars xs ys live code middle rest a b
+  unused_append vars (Form n ∷ xs) ys live code middle rest a b = record { middle = a.middle; one = a.one; all = unused_append vars xs ys live a.middle middle rest a.all b }
+
+  -- one form more
+  pub unused_more : (s t u : Emitter) (tops : List Top) (i : ℕ) (top : Top) → i < length tops → top ≡ get_or tops i top → AreUnused w s t (forms_in (take i tops)) → AreUnused w t u (forms_in (top ∷ []))
+      → AreUnused w s u (forms_in (take (i + 1) tops))
+  unused_more s t u tops i top within top_is so one =
+      let started : s.next ≤ t.next = so.emits.grows.later in
+      let tops_are : take i tops ++ top ∷ [] ≡ take (i + 1) tops = sym (take_more tops i top within ∙ ap (λ (f : Top). take i tops ++ f ∷ []) (sym top_is)) in
+      subst (λ (fs : List Top). AreUnused w s u (forms_in fs)) tops_are (record {
+        emits = then s t u (AllUnused s.next (forms_in (take i tops))) (AllUnused t.next (forms_in (top ∷ []))) (AllUnused s.next (forms_in (take i tops ++ top ∷ []))) so.emits one.emits
+            (λ vars code middle rest a b live below. unused_append vars (take i tops) (top ∷ []) live code middle rest (a live below) (b live (below_more s.next t.next live started below)));
+      })
+
+  forms_got : (tops : List Top) (i : ℕ) (d : Top) → i < length tops → AreNodes w (forms_in tops) → AreNodes w (forms_in (get_or tops i d ∷ []))
+  forms_got [] i d within h = absurd (omega arith)
+  forms_got (Function name lambda ∷ tops) zero d within h = tt
+  forms_got (Form n ∷ tops) zero d within h = (h.0, tt)
+  forms_got (Function name lambda ∷ tops) (suc i) d within h = forms_got tops i d (omega arith) h
+  forms_got (Form n ∷ tops) (suc i) d within h = forms_got tops i d (omega arith) h.1
+
+  pub form_at : (tops : List Top) (i : ℕ) (top : Top) → i < length tops → top ≡ get_or tops i top → AreNodes w (forms_in tops) → AreNodes w (forms_in (top ∷ []))
+  form_at tops i top within is h = subst (λ (f : Top). AreNodes w (forms_in (f ∷ []))) (sym is) (forms_got tops i top within h)
 
   -- All parts ---------------------------------------------------------------------------------
 

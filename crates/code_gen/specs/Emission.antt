@@ -9,6 +9,7 @@ use Rattle.core_tree.specs.declared.tree.GlobalRef.{GlobalRef}
 use Rattle.core_tree.specs.Tree.{Tree, Trees, FunctionTree, ModuleTree, Callee, own_callee, callee_of}
 use Rattle.c_tree.specs.declared.op.Op.TheVariants.{Primitive as Does}
 use Rattle.c_tree.specs.declared.tree.CTy.TheVariants as c_ty
+use Rattle.c_tree.specs.declared.tree.CAtom.TheVariants.{Unspec}
 use Rattle.c_tree.specs.declared.tree.CArg.{CArg}
 use Rattle.c_tree.specs.declared.tree.CCall.{CCall}
 use Rattle.c_tree.specs.declared.tree.CExpr.{CExpr}
@@ -16,15 +17,15 @@ use Rattle.c_tree.specs.declared.tree.CExpr.TheVariants as expr
 use Rattle.c_tree.specs.declared.tree.CVar.{CVar}
 use Rattle.c_tree.specs.declared.pieces.Piece.{Piece}
 use Rattle.c_tree.specs.declared.pieces.Piece.TheVariants as piece
-use Rattle.c_tree.specs.Code.{Code, done, assign, loop, Fun, Item, declared, defined}
+use Rattle.c_tree.specs.Code.{Code, done, assign, return, loop, Fun, Item, declared, defined}
 use Rattle.c_tree.specs.Names.{local_name, label_name, function_name}
 use Rattle.c_tree.specs.Pieces.{pieces}
 use Rattle.plan_rules.specs.declared.rep.Rep.{Rep}
 use Rattle.plan_rules.specs.declared.rep.Rep.TheVariants.{Obj, Bool as Truth_rep}
 use Rattle.plan_rules.specs.Representation.{c_type_of, has_of, operation, call_of, local, condition, Step, Keep, Make, Refuse, step}
-use Rattle.plan_rules.specs.Translation.{Name, Fresh, IsLocal, Place, Coerced, Fits, Refused, AllFit, Miscounted, haves, objects, is_counted, c_name_of, callees, into, back, deliver}
+use Rattle.plan_rules.specs.Translation.{Name, Fresh, IsLocal, Place, Coerced, Fits, Refused, AllFit, Miscounted, haves, objects, is_counted, c_name_of, callees, into, back, deliver, TrAllUnused, TrForms}
 use Rattle.code_gen.specs.Scopes.{words}
-use Rattle.code_gen.specs.Settings.{Setting, scope_in, TrIn, TrUnusedIn, TrArgumentsIn}
+use Rattle.code_gen.specs.Settings.{Setting, scope_in, TrIn, TrUnusedIn, TrAllUnusedIn, TrArgumentsIn}
 use Rattle.code_gen.specs.declared.coercions.Coercion.{Coercion}
 use Rattle.code_gen.specs.declared.coercions.Coercion.TheVariants as coercion
 use Rattle.code_gen.specs.declared.emitter.Emitter.{Emitter}
@@ -200,6 +201,9 @@ pub record IsFunctionCall (w : Setting) (s t : Emitter) (g : GlobalRef) (ns : Tr
 pub record IsUnused (w : Setting) (s t : Emitter) (n : Tree) : Type 0 where
   pub emits : Emits s t (λ vars code rest. (live : List Name) → AreBelow s.next live → TrUnusedIn w vars n live code rest)
 
+pub record AreUnused (w : Setting) (s t : Emitter) (ns : Trees) : Type 0 where
+  pub emits : Emits s t (λ vars code rest. (live : List Name) → AreBelow s.next live → TrAllUnusedIn w vars ns live code rest)
+
 -- a node's value goes to a place, as a word
 abbrev pub Delivered : Setting → Tree → List Name → List CVar → Place → Code → Code → Type 0
 Delivered w n live vars place code rest = Coerced vars (has_of (scope_in w) n Obj) Obj (λ place code rest. TrIn w vars n (has_of (scope_in w) n Obj) live place code rest) live place code rest
@@ -216,6 +220,10 @@ pub record IsBodyOf (w : Setting) (s t : Emitter) (n : Tree) : Type 0 where
 
 -- Functions ---------------------------------------------------------------------------------
 
+-- what an initialisation gives
+abbrev pub unspecified : CExpr
+unspecified = expr.Atom Unspec
+
 abbrev pub word_names : List VarId → List Name
 word_names params = map (λ v. v.name) (words 0 params)
 
@@ -230,6 +238,14 @@ pub record IsLooped (w : Setting) (n : Tree) (s : Emitter) : Type 0 where
   pub code : Code
   pub is : s.pieces ≡ pieces (loop (label_name 0) code done) []
   pub translated : TrIn w (variables_with w.params s.locals) n Obj (word_names w.params) back code done
+
+-- all statements of an initialisation are there
+pub record IsStraight (m : ModuleTree) (s : Emitter) : Type 0 where
+  pub small : s.next ≤ 2 ^ 32
+  pub counted : AreCounted s.locals 0 s.next
+  pub code : Code
+  pub is : s.pieces ≡ pieces code []
+  pub translated : TrAllUnused m [] s.locals m.forms [] code (return unspecified done)
 
 -- the pieces of some code
 pub record ArePieces (ps : List Piece) : Type 0 where
@@ -249,6 +265,13 @@ pub record IsFunctionOf (m : ModuleTree) (f : FunctionTree) (g : Fun) : Type 0 w
   pub code : Code
   pub looped : g.code ≡ loop (label_name 0) code done
   pub translated : TrIn (setting_of m f) (variables_with f.params g.locals) f.body Obj (word_names f.params) back code done
+
+-- an initialisation, whose locals are numbered in order
+pub record IsInitialization (m : ModuleTree) (g : Fun) : Type 0 where
+  pub forms : TrForms m g
+  pub last : ℕ
+  pub small : last ≤ 2 ^ 32
+  pub counted : AreCounted g.locals 0 last
 
 -- Units -------------------------------------------------------------------------------------
 

@@ -1,3 +1,4 @@
+pub mod Callees
 pub mod Emission
 pub mod Samples
 pub mod Scopes

@@ -1,16 +1,15 @@
 -- What a module and a function give to the statements in it.
 use Rattle.std.specs.Prelude.{List}
 use Rattle.core_tree.specs.declared.tree.VarId.{VarId}
-use Rattle.core_tree.specs.Tree.{Tree, Trees, ModuleTree, Callee, module_tree}
+use Rattle.core_tree.specs.Tree.{Tree, Trees, ModuleTree, module_tree}
 use Rattle.core_tree.specs.WellFormed.{IsExpression, AreExpressions, IsBody}
 use Rattle.c_tree.specs.declared.tree.CVar.{CVar}
 use Rattle.c_tree.specs.Code.{Code}
 use Rattle.plan_rules.specs.declared.rep.Rep.{Rep}
 use Rattle.plan_rules.specs.Representation.{Scope}
 use Rattle.prim_table.specs.declared.primitives.Ty.{Ty}
-use Rattle.plan_rules.specs.Translation.{Name, Statements, Tr, TrUnused, TrLast, TrArguments}
+use Rattle.plan_rules.specs.Translation.{Name, Statements, Tr, TrUnused, TrAllUnused, TrLast, TrArguments}
 use Rattle.code_gen.specs.Scopes.{scope_with}
-use Rattle.code_gen.specs.declared.callees.Called.{Called}
 use Rattle.code_gen.specs.declared.context.Context.{Context}
 
 pub record Setting : Type 0 where
@@ -18,10 +17,7 @@ pub record Setting : Type 0 where
   pub params : List VarId
 
 abbrev pub setting : Context → Setting
-setting c = record { in_module = module_tree c.in_module.now; params = c.params }
-
-abbrev pub callee_in : Called → Callee
-callee_in c = record { module_name = c.module_name.now; name = c.name.now; params = c.params }
+setting c = record { in_module = module_tree c.functions.now; params = c.params }
 
 abbrev pub scope_in : Setting → Scope
 scope_in w = scope_with w.params
@@ -44,6 +40,9 @@ TrIn w vars n h live place code rest = Tr w.in_module (scope_in w) vars n h live
 
 abbrev pub TrUnusedIn : Setting → List CVar → Tree → List Name → Code → Code → Type 0
 TrUnusedIn w vars n live code rest = TrUnused w.in_module (scope_in w) vars n live code rest
+
+abbrev pub TrAllUnusedIn : Setting → List CVar → Trees → List Name → Code → Code → Type 0
+TrAllUnusedIn w vars ns live code rest = TrAllUnused w.in_module (scope_in w) vars ns live code rest
 
 abbrev pub TrLastIn : Setting → List CVar → Trees → Rep → List Name → Statements
 TrLastIn w vars ns h live place code rest = TrLast w.in_module (scope_in w) vars ns h live place code rest

@@ -1,8 +1,8 @@
 // Expressions whose values nobody takes, and bodies, which are expressions in order.
-ghost use Rattle.std.specs.Prelude.{◌≡◌, ◌<◌, length, map, OnOk};
-ghost use Rattle.core_tree.specs.Tree.{tree, trees, If, Sequence};
+ghost use Rattle.std.specs.Prelude.{◌≡◌, ◌<◌, [], ◌∷◌, length, map, OnOk};
+ghost use Rattle.core_tree.specs.Tree.{tree, trees, If, Sequence, forms_in};
 ghost use Rattle.code_gen.specs.Settings.{setting, IsNode, AreNodes, IsBodyIn};
-ghost use Rattle.code_gen.specs.Emission.{IsUnused, IsBodyOf};
+ghost use Rattle.code_gen.specs.Emission.{IsUnused, AreUnused, IsBodyOf};
 
 use crate::branches::tested;
 use crate::calls::{function_call, primitive_call};
@@ -10,7 +10,7 @@ use crate::context::Context;
 use crate::emitter::{Emitter, Place};
 use crate::nodes::delivered;
 use c_tree::Piece;
-use core_tree::Node;
+use core_tree::{Node, Top};
 use scheme_data::OutOfMemory;
 
 #[cycle(unused_nodes)]
@@ -53,6 +53,28 @@ fn unused_branches(
     e.put(Piece::Else)?;
     unused(ctx, e, second)?;
     e.put(Piece::End)
+}
+
+// The statements of a form, if it is an expression.
+fn form(ctx: &Context, e: &mut Emitter, top: &Top) -> Result<(), OutOfMemory>
+    requires { AreNodes (setting ctx.now) (forms_in (top.now ∷ [])) }
+    ensures { OnOk result (AreUnused (setting ctx.now) e.old e.new (forms_in (top.now ∷ []))) }
+{
+    match top {
+        Top::Function(_, _) => Ok(()),
+        Top::Form(node) => unused(ctx, e, node),
+    }
+}
+
+/// The statements of the expressions among top-level forms.
+pub fn forms(ctx: &Context, e: &mut Emitter, tops: &[Top]) -> Result<(), OutOfMemory>
+    requires { AreNodes (setting ctx.now) (forms_in tops.now) }
+    ensures { OnOk result (AreUnused (setting ctx.now) e.old e.new (forms_in tops.now)) }
+{
+    for i in 0..tops.len() {
+        form(ctx, e, &tops[i])?;
+    }
+    Ok(())
 }
 
 // The nodes in order, of which the last gives the function's value.

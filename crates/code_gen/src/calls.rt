@@ -47,7 +47,7 @@ pub fn function_call(
     requires expressions { AreNodes (setting ctx.now) (trees (map tree nodes.now)) }
     ensures { IfOk result (λ call. IsFunctionCall (setting ctx.now) e.old e.new g (trees (map tree nodes.now)) call) }
 {
-    let called = ctx.callee(g);
+    let called = ctx.functions.callee(g);
     let types = object_types(e.alloc, nodes)?;
     if nodes.len() != called.params {
         arguments(ctx, e, types.as_slice(), nodes)?;

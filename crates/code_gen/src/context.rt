@@ -1,17 +1,15 @@
 // What the statements of a function may name.
 ghost use Rattle.std.specs.Prelude.{◌≡◌, IfOk, IsTrue, Some, length};
 ghost use Rattle.std.specs.List.{list_any};
-ghost use Rattle.core_tree.specs.Tree.{callee_of};
-ghost use Rattle.core_tree.specs.WellFormed.{same_variable, IsFound};
+ghost use Rattle.core_tree.specs.WellFormed.{same_variable};
 ghost use Rattle.c_tree.specs.Names.{local_name};
 ghost use Rattle.plan_rules.specs.declared.rep.Rep.TheVariants.{Obj};
 ghost use Rattle.plan_rules.specs.Representation.{PlainAt, slot_of};
 ghost use Rattle.code_gen.specs.Scopes.{words, scope_with};
-ghost use Rattle.code_gen.specs.Settings.{setting, callee_in};
 
-use crate::callees::{Called, own_function, used_function};
+use crate::callees::Functions;
 use c_tree::{CTy, CVar, local_name_text};
-use core_tree::{GlobalRef, Module, VarId};
+use core_tree::VarId;
 use scheme_data::{List, OutOfMemory};
 use std::alloc::Global;
 use std::collections::BTreeMap;
@@ -96,19 +94,6 @@ impl<'a> Params<'a> {
 /// Where statements stand: in a function of a module, with these parameters.
 #[derive(Drop)]
 pub struct Context<'a> {
-    pub in_module: &'a Module,
+    pub functions: &'a Functions<'a>,
     pub params: Params<'a>,
-}
-
-impl<'a> Context<'a> {
-    /// The function that is called.
-    pub fn callee(&self, g: GlobalRef) -> Called<'_>
-        requires { IsFound (callee_of (setting self.now).in_module g) }
-        ensures { callee_of (setting self.now).in_module g ≡ Some (callee_in result) }
-    {
-        match g {
-            GlobalRef::Own(n) => own_function(self.in_module, n),
-            GlobalRef::Used(n) => used_function(self.in_module, n),
-        }
-    }
 }

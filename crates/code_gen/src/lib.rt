@@ -7,6 +7,7 @@ mod callees;
 mod calls;
 mod coercions;
 mod context;
+mod definitions;
 mod emitter;
 mod generate;
 mod nodes;

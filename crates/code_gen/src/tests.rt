@@ -1,13 +1,11 @@
 // Small modules, and what is written for them.
-ghost use Rattle.std.specs.Prelude.{◌≡◌, ◌<◌, ◌∷◌, [], map, codes, IfOk};
+ghost use Rattle.std.specs.Prelude.{◌≡◌, ◌<◌, ◌∷◌, [], map, IfOk};
 ghost use Rattle.scheme_data.specs.Fixnum.{IsFixnum};
-ghost use Rattle.core_tree.specs.Tree.{tree, trees, function_tree, module_tree};
+ghost use Rattle.core_tree.specs.declared.tree.Top.TheVariants.{Function};
+ghost use Rattle.core_tree.specs.Tree.{tree, trees, module_tree};
 ghost use Rattle.core_tree.specs.WellFormed.{IsWellFormed};
-ghost use Rattle.prim_table.specs.declared.primitives.Ty.TheVariants.{Obj};
-ghost use Rattle.iface_text.specs.declared.interface.RowKind.TheVariants.{Fun};
-ghost use Rattle.core_tree.specs.declared.tree.Use.TheVariants.{From, Need};
 ghost use Rattle.code_gen.specs.Settings.{Setting, IsBodyIn};
-ghost use Rattle.code_gen.specs.Samples.{Stands, AllStand, IsSampleBody};
+ghost use Rattle.code_gen.specs.Samples.{Stands, AllStand, IsSampleBody, IsSampleForm, sample_imports, row_named, sample_uses, sample};
 
 use crate::generate_unit;
 use c_tree::{
@@ -123,13 +121,22 @@ fn call(f: u32, args: Items<Node>) -> Node
     Node::Call(GlobalRef::Own(f), args)
 }
 
-// A function `go` that evaluates two expressions.
-fn go(alloc: Global, first: Node, last: Node) -> Result<Top, OutOfMemory>
+// A call of one of the functions on a constant, which names no variable.
+fn call_alone(alloc: Global, f: u32, b: bool) -> Result<Node, OutOfMemory>
+    requires { f < 2 }
+    ensures { IfOk result (λ n. IsSampleForm (tree n)) }
+{
+    let mut args = Items::new(alloc);
+    args.push(Node::Constant(Const::Bool(b)))?;
+    Ok(Node::Call(GlobalRef::Own(f), args))
+}
+
+// A function of one parameter that evaluates two expressions.
+fn go(alloc: Global, first: Node, last: Node) -> Result<Lambda, OutOfMemory>
     requires first_is { Stands (tree first) }
     requires last_is { Stands (tree last) }
-    ensures name { IfOk result (λ t. (function_tree t).name ≡ codes "go") }
-    ensures params { IfOk result (λ t. (function_tree t).params ≡ record { 0 = 0 } ∷ []) }
-    ensures body { IfOk result (λ t. IsSampleBody (function_tree t).body) }
+    ensures params { IfOk result (λ f. f.params ≡ record { 0 = 0 } ∷ []) }
+    ensures body { IfOk result (λ f. IsSampleBody (tree f.body)) }
 {
     let mut params = List::new(alloc);
     params.push(VarId(0))?;
@@ -137,13 +144,12 @@ fn go(alloc: Global, first: Node, last: Node) -> Result<Top, OutOfMemory>
     parts.push(first)?;
     parts.push(last)?;
     let body = Node::Sequence(parts);
-    Ok(Top::Function(Text::from_bytes(alloc, b"go")?, Lambda { params, body }))
+    Ok(Lambda { params, body })
 }
 
-// A function `sum` of two parameters.
-fn sum(alloc: Global) -> Result<Top, OutOfMemory>
-    ensures name { IfOk result (λ t. (function_tree t).name ≡ codes "sum") }
-    ensures body { IfOk result (λ t. (w : Setting) → w.params ≡ (function_tree t).params → IsBodyIn w (function_tree t).body) }
+// A function that adds its two parameters.
+fn sum(alloc: Global) -> Result<Lambda, OutOfMemory>
+    ensures { IfOk result (λ f. (w : Setting) → w.params ≡ f.params → IsBodyIn w (tree f.body)) }
 {
     let mut params = List::new(alloc);
     params.push(VarId(1))?;
@@ -154,12 +160,17 @@ fn sum(alloc: Global) -> Result<Top, OutOfMemory>
     let mut parts = Items::new(alloc);
     parts.push(Node::Primitive(Primitive::Add, args))?;
     let body = Node::Sequence(parts);
-    Ok(Top::Function(Text::from_bytes(alloc, b"sum")?, Lambda { params, body }))
+    Ok(Lambda { params, body })
 }
 
-// The names `f` and `g` of a module `a`.
+fn function(alloc: Global, name: &[u8], lambda: Lambda) -> Result<Top, OutOfMemory>
+    ensures { IfOk result (λ t. t ≡ Function name.now lambda) }
+{
+    Ok(Top::Function(Text::from_bytes(alloc, name)?, lambda))
+}
+
 fn imports(alloc: Global) -> Result<List<ImportItem>, OutOfMemory>
-    ensures { IfOk result (λ is. is ≡ record { module_name = codes "a"; names = codes "f" ∷ codes "g" ∷ [] } ∷ []) }
+    ensures { IfOk result (λ is. is ≡ sample_imports) }
 {
     let mut names = List::new(alloc);
     names.push(Text::from_bytes(alloc, b"f")?)?;
@@ -172,9 +183,8 @@ fn imports(alloc: Global) -> Result<List<ImportItem>, OutOfMemory>
     Ok(imports)
 }
 
-// A function of one parameter.
 fn row(alloc: Global, name: &[u8]) -> Result<Row, OutOfMemory>
-    ensures { IfOk result (λ r. r ≡ record { name = name.now; kind = Fun (Obj ∷ []) Obj }) }
+    ensures { IfOk result (λ r. r ≡ row_named name.now) }
 {
     let mut params = List::new(alloc);
     params.push(Ty::Obj)?;
@@ -184,9 +194,8 @@ fn row(alloc: Global, name: &[u8]) -> Result<Row, OutOfMemory>
     })
 }
 
-// Of these functions `f` is called and `g` isn't.
 fn uses(alloc: Global) -> Result<List<Use>, OutOfMemory>
-    ensures { IfOk result (λ us. us ≡ From (codes "a") (record { name = codes "f"; kind = Fun (Obj ∷ []) Obj }) ∷ Need (codes "a") (record { name = codes "g"; kind = Fun (Obj ∷ []) Obj }) ∷ []) }
+    ensures { IfOk result (λ us. us ≡ sample_uses) }
 {
     let mut uses = List::new(alloc);
     uses.push(Use::From(Text::from_bytes(alloc, b"a")?, row(alloc, b"f")?))?;
@@ -194,15 +203,10 @@ fn uses(alloc: Global) -> Result<List<Use>, OutOfMemory>
     Ok(uses)
 }
 
-// A module `hello` of the two functions, which uses the module `a`.
-fn module(alloc: Global, first: Node, last: Node) -> Result<Module, OutOfMemory>
-    requires first_is { Stands (tree first) }
-    requires last_is { Stands (tree last) }
-    ensures { IfOk result (λ m. IsWellFormed (module_tree m)) }
+// A module `hello` of these forms, which uses the module `a`.
+fn hello(alloc: Global, tops: List<Top>) -> Result<Module, OutOfMemory>
+    ensures { IfOk result (λ m. module_tree m ≡ sample tops) }
 {
-    let mut tops = List::new(alloc);
-    tops.push(go(alloc, first, last)?)?;
-    tops.push(sum(alloc)?)?;
     Ok(Module {
         name: Text::from_bytes(alloc, b"hello")?,
         imports: imports(alloc)?,
@@ -211,6 +215,31 @@ fn module(alloc: Global, first: Node, last: Node) -> Result<Module, OutOfMemory>
         exports: List::new(alloc),
         main: Some(Text::from_bytes(alloc, b"go")?),
     })
+}
+
+// The functions `go` and `sum`.
+fn module(alloc: Global, first: Node, last: Node) -> Result<Module, OutOfMemory>
+    requires first_is { Stands (tree first) }
+    requires last_is { Stands (tree last) }
+    ensures { IfOk result (λ m. IsWellFormed (module_tree m)) }
+{
+    let mut tops = List::new(alloc);
+    tops.push(function(alloc, b"go", go(alloc, first, last)?)?)?;
+    tops.push(function(alloc, b"sum", sum(alloc)?)?)?;
+    hello(alloc, tops)
+}
+
+// Expressions before, between and after the functions `go` and `sum`: `(go #t)`, `(sum #f)` and `(go #f)`.
+fn module_with_forms(alloc: Global) -> Result<Module, OutOfMemory>
+    ensures { IfOk result (λ m. IsWellFormed (module_tree m)) }
+{
+    let mut tops = List::new(alloc);
+    tops.push(Top::Form(call_alone(alloc, 0, true)?))?;
+    tops.push(function(alloc, b"go", go(alloc, number(4), number(5))?)?)?;
+    tops.push(Top::Form(call_alone(alloc, 1, false)?))?;
+    tops.push(function(alloc, b"sum", sum(alloc)?)?)?;
+    tops.push(Top::Form(call_alone(alloc, 0, false)?))?;
+    hello(alloc, tops)
 }
 
 fn write_atom(out: &mut Text, a: &CAtom) -> Result<(), OutOfMemory> {
@@ -368,6 +397,20 @@ fn what_may_be_called_is_declared_and_the_maker_and_the_initialisation_come_last
     assert_eq!(rt;
         text.as_bytes(),
         b"f_hello__go/1;f_hello__sum/2;f_a__f/1;f_hello__go:L0:{return bgl_box_long -7;}f_hello__sum:obj x2;obj x3;long x4;long x5;long x6;L0:{x2=x0;x3=x1;x4=bgl_unbox_long x2;x5=bgl_unbox_long x3;x6=bgl_p__2b x4 x5;return bgl_box_long x6;}c_hello:return BGL_UNSPEC;i_hello:return BGL_UNSPEC;".as_slice()
+    );
+    Ok(())
+}
+
+#[test]
+fn expressions_among_the_functions_are_evaluated_in_order_by_the_initialisation(
+    rt: HostRuntime,
+) -> Result<(), OutOfMemory> {
+    let alloc = rt.alloc();
+    let unit = generate_unit(alloc, &module_with_forms(alloc)?)?;
+    let text = outline(alloc, &unit, 6, 7)?;
+    assert_eq!(rt;
+        text.as_bytes(),
+        b"i_hello:obj x0;obj x1;obj x2;x0=BGL_TRUE;f_hello__go x0;x1=BGL_FALSE;bgl_raise 2 \"2\";x2=BGL_FALSE;f_hello__go x2;return BGL_UNSPEC;".as_slice()
     );
     Ok(())
 }

@@ -6,7 +6,8 @@ use Rattle.core_tree.specs.Tree.{Tree, trees, tree}
 use Rattle.core_tree.specs.WellFormed.{AsMany}
 use Rattle.plan_rules.specs.Representation.{rep_of}
 use Rattle.plan_rules.specs.Translation.{objects}
-use Rattle.code_gen.specs.Settings.{setting, callee_in}
+use Rattle.code_gen.specs.Callees.{callee_in}
+use Rattle.code_gen.specs.Settings.{setting}
 use Rattle.code_gen.specs.declared.emitter.Place.TheVariants.{Into}
 use Rattle.code_gen.specs.Emission.{AreParameters, IsValue, IsDelivered, AreArguments, IsReady, IsPrimitiveCall, IsFunctionCall}
 use Rattle.code_gen.proofs.Shapes.{weight-Primitive, weight-Call, weight_chosen, weight_at, tree-Constant, tree-Variable, tree-If, tree-Call, tree-Primitive, chosen_tree, chosen_parts, primitive_parts, call_parts, as_many_length, node_at, objects_are, objects_as_many, right_count, wrong_count}

@@ -3,8 +3,8 @@ use Rattle.c_tree.specs.declared.pieces.Piece.TheVariants.{Loop}
 use Rattle.core_tree.specs.Tree.{tree}
 use Rattle.code_gen.specs.Settings.{setting}
 use Rattle.code_gen.specs.Emission.{IsFresh, Puts}
-use Rattle.code_gen.proofs.Functions.{loop_written}
-use Rattle.code_gen.proofs.generate.looped.Goals as goal
+use Rattle.code_gen.proofs.Written.{loop_written}
+use Rattle.code_gen.proofs.definitions.looped.Goals as goal
 
 pub returns : goal.returns
 returns c =

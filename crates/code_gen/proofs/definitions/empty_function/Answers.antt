@@ -4,7 +4,7 @@ use Rattle.c_tree.specs.declared.tree.CExpr.TheVariants.{Atom}
 use Rattle.c_tree.specs.declared.pieces.Piece.{Piece}
 use Rattle.c_tree.specs.declared.pieces.Piece.TheVariants as piece
 use Rattle.c_tree.specs.Code.{Code, done, return}
-use Rattle.code_gen.proofs.generate.empty_function.Goals as goal
+use Rattle.code_gen.proofs.definitions.empty_function.Goals as goal
 
 abbrev nothing : Code
 nothing = return (Atom Unspec) done
