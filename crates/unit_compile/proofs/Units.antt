@@ -62,6 +62,9 @@ module_once source texts forms is only are m it =
 pub compiled : (source : List ℕ) (texts : List (List ℕ)) (text : List ℕ) (forms : List Datum) (is : List IfaceTree) (m : ModuleTree) (o : ObjectTree)
     → IsSource source forms → IsOnly source forms → AreOnlyTexts texts is → MakesModule is forms m → IsObjectOf m o → ObjectText text o → Compiled source texts text
 compiled source texts text forms is m o read only are made is_object is_text = record {
+  forms = forms;
+  read = read;
+  read_once = only;
   module_tree = m;
   is_module = record { forms = forms; read = read; interfaces = is; are_texts = texts_of texts is are; is = made.is };
   only = other;

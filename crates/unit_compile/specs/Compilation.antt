@@ -63,7 +63,11 @@ pub record IsObjectOf (m : ModuleTree) (o : ObjectTree) : Type 0 where
   pub main : o.main ≡ m.main
   pub translated : Translated m o.items
 
+-- the text is that of an object of the source's module, compiled with these interface texts; the source has one reading, and with these texts one module
 pub record Compiled (source : List ℕ) (texts : List (List ℕ)) (text : List ℕ) : Type 0 where
+  pub forms : List Datum
+  pub read : IsSource source forms
+  pub read_once : (others : List Datum) → IsSource source others → forms ≡ others
   pub module_tree : ModuleTree
   pub is_module : IsModuleOf source texts module_tree
   pub only : (m : ModuleTree) → IsModuleOf source texts m → m ≡ module_tree
