@@ -1,72 +1,119 @@
--- The joined program has right names where the unit has, and an object alone is linked to it.
-use Rattle.std.proofs.Common.{◌≡◌, ℕ, List, [], ◌∷◌, ◌++◌, length, get_or, map, IsTrue, Option, Some, refl, ap, ap₂, sym, ◌∙◌, subst, arith}
-use Rattle.std.proofs.lemmas.List.{map-append}
-use Rattle.scheme_data.specs.Symbols.{IsName}
+-- The joined program has right names where the units have.
+use Rattle.std.proofs.Common.{◌≡◌, ℕ, zero, suc, ◌<◌, true, arith, List, [], ◌∷◌, ◌++◌, map, slice_get, IsTrue, Option, Some, None, refl, ap, ap₂, sym, ◌∙◌, subst}
+use Rattle.std.proofs.lemmas.List.{map-append, append_assoc}
+use Rattle.std.specs.List.{flat_map, list_all}
+use Rattle.std.proofs.lemmas.Bool.{and_parts}
+use Rattle.std.proofs.lemmas.Bool.Decides.{nat_tests}
+use Rattle.scheme_data.specs.Symbols.{is_symbol_byte}
 use Rattle.c_tree.specs.declared.function.CItem.{CItem}
-use Rattle.c_tree.specs.declared.function.CUnit.{CUnit}
-use Rattle.c_tree.specs.Code.{Item}
+use Rattle.c_tree.specs.declared.pieces.Piece.{Piece}
+use Rattle.c_tree.specs.declared.pieces.Piece.TheVariants as piece
+use Rattle.c_tree.proofs.NameShapes.{AreBytes, maker_name-is_function_name, initializer_name-is_function_name}
+use Rattle.c_tree.specs.Code.{Code, done, Item}
 use Rattle.c_tree.specs.Functions.{item_of, items_of}
-use Rattle.c_tree.specs.Names.{is_function_name, is_local_name, function_name, maker_name, initializer_name}
-use Rattle.c_tree.specs.Spelling.{CText, NamedItem, NamedItems}
-use Rattle.object_text.specs.declared.object.Object.{Object}
-use Rattle.object_text.specs.Format.{ObjectTree, ObjectText, IsMainName, object_tree}
-use Rattle.plan_rules.specs.Joined.{joined, main_function, main_item}
-use Rattle.linker.specs.declared.joining.Alone.{Alone}
-use Rattle.linker.specs.Links.{IsAlone, Linked, NotLinked}
+use Rattle.c_tree.specs.Names.{is_function_name, is_local_name, maker_name, initializer_name}
+use Rattle.c_tree.specs.Pieces.{pieces}
+use Rattle.c_tree.specs.Spelling.{NamedItem, NamedItems, NamedCode}
+use Rattle.meaning.specs.Order.{onto_chosen, chosen}
+use Rattle.object_text.specs.Format.{ObjectTree, CanBeWritten}
+use Rattle.object_text.specs.Parts.{AllAre}
+use Rattle.plan_rules.specs.Joined.{Part, call_alone, calls_alone, call_main, main_code, main_function}
+use Rattle.linker.specs.declared.joining.NamedUnit.{NamedUnit}
+use Rattle.linker.specs.Links.{part_of}
+use Rattle.linker.specs.Modules.{unit_part, unit_names, joined_with, NamedPart}
+
+-- Names -------------------------------------------------------------------------------------
 
 named_append : (a b : List Item) → NamedItems a → NamedItems b → NamedItems (a ++ b)
 named_append [] b h k = k
 named_append (i ∷ is) b h k = (h.0, named_append is b h.1 k)
 
-main_named : (maker initializer f : List ℕ) → IsTrue (is_function_name maker) → IsTrue (is_function_name initializer) → IsTrue (is_function_name f) → NamedItem (main_function maker initializer f)
+named_parts : (ps : List Part) → AllAre NamedPart ps → NamedItems (flat_map (λ p. p.items) ps)
+named_parts [] are = tt
+named_parts (p ∷ ps) are = named_append p.items (flat_map (λ q. q.items) ps) are.0.items (named_parts ps are.1)
+
+abbrev pub NamedFunction : List ℕ → Type 0
+NamedFunction name = IsTrue (is_function_name name)
+
+named_calls : (names : List (List ℕ)) (rest : Code) → AllAre NamedFunction names → NamedCode rest → NamedCode (calls_alone names rest)
+named_calls [] rest are h = h
+named_calls (name ∷ names) rest are h = ((are.0, tt), named_calls names rest are.1 h)
+
+named_run : (f : List ℕ) → IsTrue (is_function_name f) → NamedCode (call_main f)
+unfolding is_local_name
+named_run f h = (refl, (tt, tt), (refl, (h, (refl, tt)), ((tt, (refl, tt)), tt)))
+
+symbols_are_bytes : (bs : List ℕ) → list_all is_symbol_byte bs ≡ true → AreBytes bs
+symbols_are_bytes [] e i = omega arith
+symbols_are_bytes (b ∷ bs) e zero = small (and_parts (is_symbol_byte b) (list_all is_symbol_byte bs) e).0
+  where
+    small : is_symbol_byte b ≡ true → b < 256
+    small h = grind (arith, nat_tests)
+symbols_are_bytes (b ∷ bs) e (suc i) = symbols_are_bytes bs (and_parts (is_symbol_byte b) (list_all is_symbol_byte bs) e).1 i
+
+named_makers : (ps : List Part) → AllAre NamedPart ps → AllAre NamedFunction (map maker_name (map (λ p. p.module_name) ps))
+named_makers [] are = tt
+named_makers (p ∷ ps) are = (maker_name-is_function_name p.module_name are.0.module_name.some (symbols_are_bytes p.module_name are.0.module_name.bytes), named_makers ps are.1)
+
+named_initializers : (ps : List Part) → AllAre NamedPart ps → AllAre NamedFunction (map initializer_name (map (λ p. p.module_name) ps))
+named_initializers [] are = tt
+named_initializers (p ∷ ps) are = (initializer_name-is_function_name p.module_name are.0.module_name.some (symbols_are_bytes p.module_name are.0.module_name.bytes), named_initializers ps are.1)
+
+main_named : (ms : List (List ℕ)) (f : List ℕ) → NamedCode (main_code ms f) → NamedItem (main_function ms f)
 unfolding is_function_name is_local_name
-main_named maker initializer f made initialized h = (refl, tt, (refl, (refl, tt)), ((made, tt), ((initialized, tt), (refl, (tt, tt), (refl, (h, (refl, tt)), ((tt, (refl, tt)), tt))))))
+main_named ms f h = (refl, tt, (refl, (refl, tt)), h)
 
-pub joined_named : (m n : List ℕ) (items : List Item) → IsTrue (is_function_name (maker_name m)) → IsTrue (is_function_name (initializer_name m)) → IsTrue (is_function_name (function_name m n)) → NamedItems items → NamedItems (joined m n items)
-unfolding joined
-joined_named m n items made initialized f h = named_append items (main_item m (function_name m n) ∷ []) h (main_named (maker_name m) (initializer_name m) (function_name m n) made initialized f, tt)
+pub joined_named : (ps : List Part) (f : List ℕ) → AllAre NamedPart ps → IsTrue (is_function_name f) → NamedItems (joined_with ps f)
+joined_named ps f are h =
+    let ms = map (λ p. p.module_name) ps in
+    let code = named_calls (map maker_name ms) (calls_alone (map initializer_name ms) (call_main f)) (named_makers ps are) (named_calls (map initializer_name ms) (call_main f) (named_initializers ps are) (named_run f h)) in
+    named_append (flat_map (λ p. p.items) ps) (main_function ms f ∷ []) (named_parts ps are) (main_named ms f code, tt)
 
-pub joined_is : (m n maker initializer f : List ℕ) (old new : List CItem) (i : CItem) → new ≡ old ++ i ∷ [] → item_of i ≡ main_function maker initializer f → maker ≡ maker_name m → initializer ≡ initializer_name m → f ≡ function_name m n → items_of new ≡ joined m n (items_of old)
-unfolding joined
-joined_is m n maker initializer f old new i e k made initialized g =
-    ap (map item_of) e ∙ (map-append item_of old (i ∷ []) ∙ ap (λ (x : Item). items_of old ++ x ∷ []) (k ∙ rw (made, initialized, g) refl))
+-- Parts -------------------------------------------------------------------------------------
 
-pub named_function : (m n a b f : List ℕ) → a ≡ m → b ≡ n → f ≡ function_name a b → f ≡ function_name m n
-named_function m n a b f e k h = h ∙ rw (e, k) refl
+writable_at : (xs : List ObjectTree) (k : ℕ) (o : ObjectTree) → AllAre CanBeWritten xs → slice_get xs k ≡ Some o → CanBeWritten o
+writable_at [] k o all e = absurd (cc)
+writable_at (x ∷ xs) zero o all e = let same : x ≡ o = cc in subst CanBeWritten same all.0
+writable_at (x ∷ xs) (suc k) o all e = writable_at xs k o all.1 e
 
-one_item : (xs : List (List ℕ)) (x : List ℕ) → length xs ≡ 1 → x ≡ get_or xs 0 x → xs ≡ x ∷ []
-one_item [] x l e = absurd (omega arith)
-one_item (y ∷ []) x l e = ap (λ (z : List ℕ). z ∷ []) (sym e)
-one_item (y ∷ z ∷ xs) x l e = absurd (omega arith)
+pub parts_named : (os : List ObjectTree) (ns : List ℕ) → AllAre CanBeWritten os → AllAre NamedPart (map part_of (chosen os ns))
+parts_named os [] are = tt
+parts_named os (n ∷ ns) are = go (slice_get os n) (λ o e. writable_at os n o are e) (parts_named os ns are)
+  where
+    go : (found : Option ObjectTree) → ((o : ObjectTree) → found ≡ Some o → CanBeWritten o) → AllAre NamedPart (map part_of (chosen os ns)) → AllAre NamedPart (map part_of (onto_chosen found (chosen os ns)))
+    go None all rest = rest
+    go (Some o) all rest = let w = all o refl in (record { module_name = w.header.module_name; items = w.named }, rest)
 
-pub only_text : (objects texts : List (List ℕ)) (x bytes : List ℕ) → texts ≡ objects → length texts ≡ 1 → x ≡ get_or texts 0 x → bytes ≡ x → objects ≡ bytes ∷ []
-only_text objects texts x bytes e l h k = sym e ∙ (one_item texts x l h ∙ ap (λ (z : List ℕ). z ∷ []) (sym k))
+-- Items -------------------------------------------------------------------------------------
 
-head_is : (xs : List (List ℕ)) (x y : List ℕ) → xs ≡ x ∷ [] → xs ≡ y ∷ [] → y ≡ x
-head_is xs x y e k = cc
+names_of_parts : (units : List NamedUnit) → map (λ p. p.module_name) (map unit_part units) ≡ unit_names units
+names_of_parts [] = refl
+names_of_parts (u ∷ us) = ap (λ (ms : List (List ℕ)). u.module_name ∷ ms) (names_of_parts us)
 
-pub no_object : (xs : List (List ℕ)) (x : List ℕ) → xs ≡ x ∷ [] → ((o : ObjectTree) → ObjectText x o → ⊥) → NotLinked xs
-no_object xs x e none y o main k t alone = none o (subst (λ (z : List ℕ). ObjectText z o) (head_is xs x y e k) t)
+items_of_units : (units : List NamedUnit) → items_of (flat_map (λ u. u.items) units) ≡ flat_map (λ p. p.items) (map unit_part units)
+items_of_units [] = refl
+items_of_units (u ∷ us) = map-append item_of u.items (flat_map (λ v. v.items) us) ∙ ap (λ (is : List Item). items_of u.items ++ is) (items_of_units us)
 
-pub not_alone : (xs : List (List ℕ)) (x : List ℕ) (o : ObjectTree) → xs ≡ x ∷ [] → ((t : ObjectTree) → ObjectText x t → o ≡ t) → ((main : List ℕ) → IsAlone o main → ⊥) → NotLinked xs
-not_alone xs x o e given none y t main k text alone =
-    none main (subst (λ (u : ObjectTree). IsAlone u main) (sym (given t (subst (λ (z : List ℕ). ObjectText z t) (head_is xs x y e k) text))) alone)
+joined_is : (units : List NamedUnit) (f : List ℕ) (main : CItem) (items : List CItem) → items ≡ flat_map (λ u. u.items) units ++ main ∷ [] → item_of main ≡ main_function (unit_names units) f → items_of items ≡ joined_with (map unit_part units) f
+joined_is units f main items e k =
+    ap items_of e
+    ∙ (map-append item_of (flat_map (λ u. u.items) units) (main ∷ [])
+    ∙ ap₂ (λ (is : List Item) (i : Item). is ++ i ∷ []) (items_of_units units) (k ∙ ap (λ (ms : List (List ℕ)). main_function ms f) (sym (names_of_parts units))))
 
-name_of : (main : Option (List ℕ)) (name : List ℕ) → IsMainName main → main ≡ Some name → IsName name
-name_of main name is e = rw e at is
+pub program_is : (units slice : List NamedUnit) (f : List ℕ) (main : CItem) (start one all items : List CItem) → slice ≡ units → item_of main ≡ main_function (unit_names slice) f → start ≡ [] → one ≡ main ∷ start → all ≡ flat_map (λ u. u.items) units ++ one → items ≡ all
+    → items_of items ≡ joined_with (map unit_part units) f
+program_is units slice f main start one all items same is none first joined given =
+    joined_is units f main items (given ∙ (joined ∙ ap (λ (is : List CItem). flat_map (λ u. u.items) units ++ is) (first ∙ ap (λ (is : List CItem). main ∷ is) none))) (is ∙ ap (λ (us : List NamedUnit). main_function (unit_names us) f) same)
 
-pub main_is_name : (bytes name : List ℕ) (o : ObjectTree) → ObjectText bytes o → IsAlone o name → IsName name
-main_is_name bytes name o t alone = name_of o.main name t.header.main alone.has_main
+-- Pieces ------------------------------------------------------------------------------------
 
-pub linked : (objects : List (List ℕ)) (bytes : List ℕ) (o : Object) (a : Alone) (items : List Item) (text : List ℕ) → objects ≡ bytes ∷ [] → ObjectText bytes (object_tree o) → ((t : ObjectTree) → ObjectText bytes t → object_tree o ≡ t)
-    → IsAlone (object_tree o) a.main → (a.module_name ≡ o.module_name) × (a.unit ≡ o.unit) → items ≡ joined a.module_name a.main (items_of a.unit.items) → CText text items → Linked objects text
-linked objects bytes o a items text e t given alone parts k c = record {
-  bytes = bytes;
-  one = e;
-  object = object_tree o;
-  is_object = t;
-  only = λ u h. sym (given u h);
-  main = a.main;
-  alone = alone;
-  is_text = subst (λ (is : List Item). CText text is) (k ∙ ap₂ (λ (name : List ℕ) (unit : CUnit). joined name a.main (items_of unit.items)) parts.0 parts.1) c;
-}
+pieces_of_calls : (names : List (List ℕ)) (rest : Code) → pieces (calls_alone names rest) [] ≡ pieces (calls_alone names done) [] ++ pieces rest []
+pieces_of_calls [] rest = refl
+pieces_of_calls (name ∷ names) rest = ap (λ (ps : List Piece). piece.Call (call_alone name) ∷ ps) (pieces_of_calls names rest)
+
+pub main_pieces_are : (ms : List (List ℕ)) (f : List ℕ) (start a b c : List Piece) → start ≡ [] → a ≡ start ++ pieces (calls_alone (map maker_name ms) done) [] → b ≡ a ++ pieces (calls_alone (map initializer_name ms) done) [] → c ≡ b ++ pieces (call_main f) [] → c ≡ pieces (main_code ms f) []
+main_pieces_are ms f start a b c none x y z =
+    z ∙ (ap (λ (ps : List Piece). ps ++ pieces (call_main f) []) (y ∙ ap (λ (ps : List Piece). ps ++ pieces (calls_alone (map initializer_name ms) done) []) (x ∙ ap (λ (ps : List Piece). ps ++ pieces (calls_alone (map maker_name ms) done) []) none))
+    ∙ (append_assoc (pieces (calls_alone (map maker_name ms) done) []) (pieces (calls_alone (map initializer_name ms) done) []) (pieces (call_main f) [])
+    ∙ (ap (λ (ps : List Piece). pieces (calls_alone (map maker_name ms) done) [] ++ ps) (sym (pieces_of_calls (map initializer_name ms) (call_main f)))
+    ∙ sym (pieces_of_calls (map maker_name ms) (calls_alone (map initializer_name ms) (call_main f))))))

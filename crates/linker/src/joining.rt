@@ -1,96 +1,83 @@
-// The program of one object: its unit's items, and then `main`.
-ghost use Rattle.std.specs.Prelude.{◌≡◌, ℕ, List, [], ◌∷◌, IfOk, IfSome, IfNone};
-ghost use Rattle.scheme_data.specs.Symbols.{IsName};
+// The program of units: their items, and then `main`.
+ghost use Rattle.std.specs.Prelude.{◌≡◌, ℕ, List, [], ◌∷◌, ◌++◌, map, IfOk, OnOk, IsTrue};
+ghost use Rattle.std.specs.List.{flat_map};
 ghost use Rattle.c_tree.specs.Functions.{items_of, item_of};
 ghost use Rattle.c_tree.specs.Layout.{code_of};
+ghost use Rattle.c_tree.specs.Names.{maker_name, initializer_name, is_function_name};
 ghost use Rattle.c_tree.specs.Pieces.{pieces};
 ghost use Rattle.c_tree.specs.Spelling.{NamedItems};
-ghost use Rattle.c_tree.specs.declared.op.Op.TheVariants.{Args};
+ghost use Rattle.c_tree.specs.Code.{done};
 ghost use Rattle.c_tree.specs.declared.tree.CTy.TheVariants.{Obj as ObjTy};
-ghost use Rattle.object_text.specs.Format.{object_tree};
+ghost use Rattle.object_text.specs.Parts.{AllAre};
 ghost use Rattle.plan_rules.specs.Representation.{local};
-ghost use Rattle.plan_rules.specs.Joined.{first_local, second_local, main_code, main_function, joined};
-ghost use Rattle.linker.specs.Links.{IsAlone};
+ghost use Rattle.plan_rules.specs.Joined.{first_local, second_local, calls_alone, call_main, main_code, main_function};
+ghost use Rattle.linker.specs.Modules.{unit_part, unit_names, joined_with, NamedPart};
 
 use c_tree::{
-    CArg, CAtom, CCall, CExpr, CFun, CItem, CProgram, CTy, CUnit, CVar, Callee, Layout, Op, Piece,
-    function_name_text, initializer_name_text, lay_out, maker_name_text,
+    CArg, CAtom, CCall, CExpr, CFun, CItem, CProgram, CTy, CVar, Callee, Layout, Op, Piece,
+    initializer_name_text, lay_out, maker_name_text,
 };
-use object_text::Object;
-use scheme_data::{List, OutOfMemory, Text};
+use scheme_data::{List, OutOfMemory, Stack, Text};
 use std::alloc::Global;
 
 const FIRST: &[u8] = b"x0";
 
 const SECOND: &[u8] = b"x1";
 
-/// An object that is a program by itself: it takes nothing from another module, and has a main function.
+/// The items of a unit, with the name of its module.
 #[derive(Drop)]
-pub struct Alone {
+pub struct NamedUnit {
     pub module_name: Text,
-    pub main: Text,
-    pub unit: CUnit,
+    pub items: List<CItem>,
 }
 
-/// The object, where it is a program by itself.
-pub fn by_itself(o: Object) -> Option<Alone>
-    ensures some { IfSome result (λ a. IsAlone (object_tree o) a.main) }
-    ensures parts { IfSome result (λ a. (a.module_name ≡ o.module_name) × (a.unit ≡ o.unit)) }
-    ensures none { IfNone result ((main : List ℕ) → IsAlone (object_tree o) main → ⊥) }
+/// The program of these units in their order, with this main function.
+pub fn joined_program(
+    alloc: Global,
+    units: List<NamedUnit>,
+    function: Text,
+) -> Result<CProgram, OutOfMemory>
+    requires named { AllAre NamedPart (map unit_part units) }
+    requires function_named { IsTrue (is_function_name function) }
+    ensures is { IfOk result (λ p. items_of p.items ≡ joined_with (map unit_part units) function) }
+    ensures named { IfOk result (λ p. NamedItems (items_of p.items)) }
 {
-    let Object {
-        module_name,
-        imports,
-        uses,
-        main,
-        unit,
-        ..
-    } = o;
-    if imports.len() != 0 || uses.len() != 0 {
-        return None;
-    }
-    Some(Alone {
-        module_name,
-        main: main?,
-        unit,
+    let main = item_main(alloc, units.as_slice(), function)?;
+    let mut items = Stack::new(alloc);
+    items.push(main)?;
+    push_units(&mut items, units)?;
+    Ok(CProgram {
+        items: items.into_list(),
     })
 }
 
-/// The object's unit with its `main`.
-pub fn joined_program(alloc: Global, o: Alone) -> Result<CProgram, OutOfMemory>
-    requires module_is_name { IsName o.module_name }
-    requires main_is_name { IsName o.main }
-    requires named { NamedItems (items_of o.unit.items) }
-    ensures is { IfOk result (λ p. items_of p.items ≡ joined o.module_name o.main (items_of o.unit.items)) }
-    ensures named { IfOk result (λ p. NamedItems (items_of p.items)) }
+/// Puts the items of units in front of others.
+fn push_units(items: &mut Stack<CItem>, units: List<NamedUnit>) -> Result<(), OutOfMemory>
+    ensures { OnOk result (items.new ≡ flat_map (λ u. u.items) units ++ items.old) }
 {
-    let module_name = o.module_name.as_bytes();
-    let maker = maker_name_text(alloc, module_name)?;
-    let initializer = initializer_name_text(alloc, module_name)?;
-    let function = function_name_text(alloc, module_name, o.main.as_bytes())?;
-    let calls = MainCalls {
-        maker,
-        initializer,
-        function,
-    };
-    let mut items = o.unit.items;
-    items.push(item_main(alloc, calls)?)?;
-    Ok(CProgram { items })
+    let mut units = units.into_stack();
+    while let Some(unit) = units.pop() {
+        push_items(items, unit.items)?;
+    }
+    Ok(())
 }
 
-/// What `main` calls: the module's maker, its initialisation and its main function.
-#[derive(Drop)]
-struct MainCalls {
-    maker: Text,
-    initializer: Text,
-    function: Text,
+/// Puts the items of a unit in front of others.
+fn push_items(items: &mut Stack<CItem>, unit: List<CItem>) -> Result<(), OutOfMemory>
+    ensures { OnOk result (items.new ≡ unit ++ items.old) }
+{
+    let mut unit = unit.into_stack();
+    while let Some(item) = unit.pop() {
+        items.push(item)?;
+    }
+    Ok(())
 }
 
-/// The item `main` with these calls.
-fn item_main(alloc: Global, calls: MainCalls) -> Result<CItem, OutOfMemory>
-    ensures { IfOk result (λ i. item_of i ≡ main_function calls.maker calls.initializer calls.function) }
+/// The item `main`.
+fn item_main(alloc: Global, units: &[NamedUnit], function: Text) -> Result<CItem, OutOfMemory>
+    ensures { IfOk result (λ i. item_of i ≡ main_function (unit_names units.now) function) }
 {
-    let Layout { body, stmts } = main_layout(alloc, calls)?;
+    let Layout { body, stmts } = main_layout(alloc, units, function)?;
     Ok(CItem::Defined(CFun {
         result: CTy::Int,
         name: Text::from_bytes(alloc, b"main")?,
@@ -101,10 +88,10 @@ fn item_main(alloc: Global, calls: MainCalls) -> Result<CItem, OutOfMemory>
     }))
 }
 
-fn main_layout(alloc: Global, calls: MainCalls) -> Result<Layout, OutOfMemory>
-    ensures { IfOk result (λ l. code_of l.stmts l.body ≡ main_code calls.maker calls.initializer calls.function) }
+fn main_layout(alloc: Global, units: &[NamedUnit], function: Text) -> Result<Layout, OutOfMemory>
+    ensures { IfOk result (λ l. code_of l.stmts l.body ≡ main_code (unit_names units.now) function) }
 {
-    match lay_out(alloc, main_pieces(alloc, calls)?)? {
+    match lay_out(alloc, main_pieces(alloc, units, function)?)? {
         Some(layout) => Ok(layout),
         None => unreachable!(),
     }
@@ -128,20 +115,62 @@ fn object_local(alloc: Global, name: &[u8]) -> Result<CVar, OutOfMemory>
     })
 }
 
-/// The maker and the initialisation are called, the arguments are fetched, the function is called with them, and its value's status is returned.
-fn main_pieces(alloc: Global, calls: MainCalls) -> Result<List<Piece>, OutOfMemory>
-    ensures { IfOk result (λ ps. ps ≡ pieces (main_code calls.maker calls.initializer calls.function) []) }
+/// All makers and all initialisations are called, the arguments are fetched, the function is called with them, and its value's status is returned.
+fn main_pieces(
+    alloc: Global,
+    units: &[NamedUnit],
+    function: Text,
+) -> Result<List<Piece>, OutOfMemory>
+    ensures { IfOk result (λ ps. ps ≡ pieces (main_code (unit_names units.now) function) []) }
+{
+    let mut pieces = List::new(alloc);
+    push_makers(alloc, &mut pieces, units)?;
+    push_initializers(alloc, &mut pieces, units)?;
+    push_run(alloc, &mut pieces, function)?;
+    Ok(pieces)
+}
+
+/// Adds the calls of the makers.
+fn push_makers(
+    alloc: Global,
+    body: &mut List<Piece>,
+    units: &[NamedUnit],
+) -> Result<(), OutOfMemory>
+    ensures { OnOk result (body.new ≡ body.old ++ pieces (calls_alone (map maker_name (unit_names units.now)) done) []) }
+{
+    for unit in units {
+        let maker = maker_name_text(alloc, unit.module_name.as_bytes())?;
+        body.push(Piece::Call(call_alone(alloc, Callee::Fun(maker))))?;
+    }
+    Ok(())
+}
+
+/// Adds the calls of the initialisations.
+fn push_initializers(
+    alloc: Global,
+    body: &mut List<Piece>,
+    units: &[NamedUnit],
+) -> Result<(), OutOfMemory>
+    ensures { OnOk result (body.new ≡ body.old ++ pieces (calls_alone (map initializer_name (unit_names units.now)) done) []) }
+{
+    for unit in units {
+        let initializer = initializer_name_text(alloc, unit.module_name.as_bytes())?;
+        body.push(Piece::Call(call_alone(alloc, Callee::Fun(initializer))))?;
+    }
+    Ok(())
+}
+
+/// Adds the call of the main function on the arguments, and the return of its value's status.
+fn push_run(alloc: Global, body: &mut List<Piece>, function: Text) -> Result<(), OutOfMemory>
+    ensures { OnOk result (body.new ≡ body.old ++ pieces (call_main function) []) }
 {
     let fetch = call_alone(alloc, Callee::Op(Op::Args));
-    let run = call_with(alloc, Callee::Fun(calls.function), FIRST)?;
+    let run = call_with(alloc, Callee::Fun(function), FIRST)?;
     let status = call_with(alloc, Callee::Op(Op::Status), SECOND)?;
-    let mut pieces = List::new(alloc);
-    pieces.push(Piece::Call(call_alone(alloc, Callee::Fun(calls.maker))))?;
-    pieces.push(Piece::Call(call_alone(alloc, Callee::Fun(calls.initializer))))?;
-    pieces.push(assignment(alloc, FIRST, fetch)?)?;
-    pieces.push(assignment(alloc, SECOND, run)?)?;
-    pieces.push(Piece::Return(CExpr::Call(status)))?;
-    Ok(pieces)
+    body.push(assignment(alloc, FIRST, fetch)?)?;
+    body.push(assignment(alloc, SECOND, run)?)?;
+    body.push(Piece::Return(CExpr::Call(status)))?;
+    Ok(())
 }
 
 /// A call without arguments.

@@ -1,8 +1,13 @@
 //! Links objects to one C text.
 #![tactic(auto)]
 
+mod choosing;
+mod indexed;
 mod joining;
 mod linking;
+mod modules;
+mod reading;
+mod refusals;
 
 pub use linking::{LinkErr, link};
 
