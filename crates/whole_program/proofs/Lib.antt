@@ -1,0 +1,9 @@
+mod Chosen
+mod Members
+mod Objects
+mod Places
+mod Programs
+mod Readings
+mod Rows
+mod Visits
+mod Whole

@@ -1,0 +1,99 @@
+-- What objects are linked to means what their sources mean together.
+use Rattle.std.proofs.Common.{◌≡◌, ℕ, List, [], ◌∷◌, map, Some, refl, sym, ap, ap₂, ◌∙◌, subst}
+use Rattle.std.specs.List.{AllByRecursion as Each}
+use Rattle.std.proofs.lemmas.Option.{same_Some}
+use Rattle.core_tree.specs.Tree.{ModuleTree}
+use Rattle.core_tree.specs.WellFormed.{IsWellFormed}
+use Rattle.meaning.specs.Order.{imports_of, IsOrder, root_of, chosen}
+use Rattle.meaning.specs.Program.{src, main_of, IsProgram}
+use Rattle.plan_rules.specs.Joined.{joined}
+use Rattle.simulation.specs.Law.{IsFaithful, KeepsMeaning}
+use Rattle.object_text.specs.Format.{ObjectTree}
+use Rattle.unit_compile.specs.Compilation.{Compiled}
+use Rattle.linker.specs.Links.{AreObjectTexts, Linked, part_of}
+use Rattle.whole_program.specs.Sources.{imports_in, MeansSources}
+use Rattle.whole_program.specs.Law.{Compilation, AreCompiled, sources_of, LinkKeepsMeaning}
+use Rattle.whole_program.proofs.Programs.{AreLinkable, is_program}
+use Rattle.whole_program.proofs.Objects.{AreObjectsOf, same_parts, same_names, chosen_objects, translated, same_main, linkable}
+use Rattle.whole_program.proofs.Readings.{IsReadAs, AreReadAs, modules_of, one_program}
+
+-- Compilations ------------------------------------------------------------------------------
+
+-- the modules of sources, and the objects of these texts
+record Units (sources texts : List (List ℕ)) : Type 0 where
+  modules : List ModuleTree
+  read : AreReadAs sources modules
+  formed : Each IsWellFormed modules
+  objects : List ObjectTree
+  texts_are : AreObjectTexts texts objects
+  are : AreObjectsOf modules objects
+
+read_as : (source : List ℕ) (interfaces : List (List ℕ)) (text : List ℕ) → (c : Compiled source interfaces text) → IsReadAs source c.module_tree
+read_as source interfaces text c = record {
+  forms = c.is_module.forms;
+  read = c.is_module.read;
+  read_once = λ others is. sym (c.read_once c.is_module.forms c.is_module.read) ∙ c.read_once others is;
+  interfaces = c.is_module.interfaces;
+  is = c.is_module.is;
+}
+
+units : (cs : List Compilation) (texts : List (List ℕ)) → AreCompiled cs texts → Units (sources_of cs) texts
+units [] [] h = record { modules = []; read = tt; formed = tt; objects = []; texts_are = tt; are = tt }
+units [] (text ∷ texts) h = absurd h
+units (c ∷ cs) [] h = absurd h
+units (c ∷ cs) (text ∷ texts) h =
+    let first = h.0 in
+    let rest = units cs texts h.1 in
+    record {
+      modules = first.module_tree ∷ rest.modules;
+      read = (read_as c.source c.interfaces text first, rest.read);
+      formed = (first.formed, rest.formed);
+      objects = first.object ∷ rest.objects;
+      texts_are = (first.is_text, rest.texts_are);
+      are = (first.is_object, rest.are);
+    }
+
+-- Links -------------------------------------------------------------------------------------
+
+-- what is linked from the objects of modules
+module _ (law : KeepsMeaning) (sources texts : List (List ℕ)) (text : List ℕ) (l : Linked texts text) (ms : List ModuleTree) (read : AreReadAs sources ms) (formed : Each IsWellFormed ms) (are : AreObjectsOf ms l.objects) where
+  link : AreLinkable ms
+  link = linkable ms l.objects are formed l.accepted
+
+  is_order : IsOrder (imports_in ms) l.root l.order
+  is_order = subst (λ g. IsOrder g l.root l.order) (ap₂ imports_of (same_names ms l.objects are) (same_parts (λ (o : ObjectTree). o.imports) (λ (m : ModuleTree). m.imports) (λ m o i. i.imports) ms l.objects are)) l.is_order
+
+  is_root : root_of (map (λ m. m.main) ms) ≡ Some l.root
+  is_root = ap root_of (sym (same_parts (λ (o : ObjectTree). o.main) (λ (m : ModuleTree). m.main) (λ m o i. i.main) ms l.objects are)) ∙ l.is_root
+
+  chosen_are : AreObjectsOf (chosen ms l.order) (chosen l.objects l.order)
+  chosen_are = chosen_objects ms l.objects are l.order
+
+  is_main : main_of (chosen ms l.order) ≡ Some l.main
+  is_main = sym (same_main (chosen ms l.order) (chosen l.objects l.order) chosen_are) ∙ l.is_main
+
+  program : IsProgram (chosen ms l.order)
+  program = is_program ms link l.root l.order is_order l.main is_main
+
+  faithful : IsFaithful (chosen ms l.order) (map part_of (chosen l.objects l.order)) l.main
+  unfolding KeepsMeaning
+  faithful =
+      subst (IsFaithful (chosen ms l.order) (map part_of (chosen l.objects l.order))) (same_Some program.main l.main (sym program.is_main ∙ is_main))
+      (law (chosen ms l.order) (map part_of (chosen l.objects l.order)) program (translated (chosen ms l.order) (chosen l.objects l.order) chosen_are))
+
+  means : MeansSources sources text
+  means = record {
+    items = joined (map part_of (chosen l.objects l.order)) l.main;
+    text = l.is_text;
+    checked = faithful.checked;
+    program = chosen ms l.order;
+    is_program = record { modules = ms; are_modules = modules_of sources ms read link; root = l.root; is_root = is_root; order = l.order; is_order = is_order; is = refl };
+    same = λ others is input args turns.
+        faithful.same input args turns ∙ ap (λ (p : List ModuleTree). src p input args turns) (sym (one_program sources ms read link l.root is_root l.order is_order others is));
+  }
+
+pub keeps : KeepsMeaning → LinkKeepsMeaning
+unfolding LinkKeepsMeaning
+keeps law cs texts text compiled l =
+    let all = units cs texts compiled in
+    means law (sources_of cs) texts text l all.modules all.read all.formed (subst (AreObjectsOf all.modules) (l.are_objects.only all.objects all.texts_are) all.are)

@@ -1,0 +1,13 @@
+//! What sources mean together, and the law that what their objects are linked to means it.
+#![tactic(auto)]
+
+ghost use Rattle.whole_program.specs.Law.{LinkKeepsMeaning};
+
+use simulation::law as keeps_meaning;
+
+/// Where objects of sources are linked, each compiled with whatever interface texts, the text prints and ends as the sources do together by their plain meaning, for every input, arguments and number of turns.
+pub fn law()
+    ensures { LinkKeepsMeaning }
+{
+    keeps_meaning();
+}
