@@ -8,6 +8,7 @@ use Rattle.c_tree.specs.Code.{Item}
 use Rattle.c_meaning.specs.Program.{cm}
 use Rattle.commands.specs.declared.command.Command.{Command}
 use Rattle.commands.specs.declared.command.Command.TheVariants.{Blank, Iface, Compile, Link, Run}
+use Rattle.session.specs.declared.answer.Refusal.{Refusal}
 use Rattle.session.specs.declared.answer.Effect.{Effect}
 use Rattle.session.specs.declared.answer.Effect.TheVariants.{Nothing, Wrote, Ran}
 use Rattle.session.specs.declared.answer.Halt.{Halt}
@@ -52,114 +53,98 @@ blank_here hs (Some bytes) = ([], ((refl, refl), ap (λ (l : Bytes). Some l) (sy
 pub blank_done : (c : Command) (hs : List Held) (old : Option Bytes) → c ≡ Blank → Performs c hs old old (Ok Nothing)
 blank_done c hs old is = subst (λ (x : Command). Performs x hs old old (Ok Nothing)) (sym is) (blank_here hs old)
 
--- Iface -------------------------------------------------------------------------------------
+-- Commands that make a file -----------------------------------------------------------------
 
-export_halts : (s n : Bytes) (h : Held) (rest : List Held) (old : Option Bytes) (e : Halt) → ExportDid h.bytes (Err e) → Performs (Iface s n) (h ∷ rest) old old (Err e)
-unfolding Performs Refuses
-export_halts s n h rest None e told = tt
-export_halts s n h rest (Some o) (Refused r) told = (told, refl)
-export_halts s n h rest (Some o) Memory told = ([], (inl refl, ap (λ (l : Bytes). Some l) (sym (append-nil o))))
-export_halts s n h rest (Some o) (NoFile x) told = absurd told
-export_halts s n h rest (Some o) (FileFault x) told = absurd told
-export_halts s n h rest (Some o) WriteFault told = absurd told
+-- the command gives a file of this name with what was made, or refuses as its maker did
+pub record Makes (c : Command) (hs : List Held) (name : Bytes) (did : Result Bytes Halt → Type 0) : Type 0 where
+  pub gives : (text : Bytes) → did (Ok text) → Gives c hs [] (Wrote name text)
+  pub refuses : (r : Refusal) → did (Err (Refused r)) → Refuses c hs r
+  pub no_missing : (n : Bytes) → did (Err (NoFile n)) → ⊥
+  pub no_file_fault : (n : Bytes) → did (Err (FileFault n)) → ⊥
+  pub no_write_fault : did (Err WriteFault) → ⊥
 
-export_at_first : (hs : List Held) (text : Bytes) (rest : List Bytes) (r : Result Bytes Halt) (first : First hs text rest) → ExportDid text r → ExportDid first.head.bytes r
-export_at_first hs text rest r first told = subst (λ (x : Bytes). ExportDid x r) (sym first.bytes_are) told
+halts : (c : Command) (hs : List Held) (name : Bytes) (did : Result Bytes Halt → Type 0) (old : Option Bytes) (e : Halt) → Makes c hs name did → did (Err e) → Performs c hs old old (Err e)
+unfolding Performs
+halts c hs name did None e makes told = tt
+halts c hs name did (Some o) (Refused r) makes told = (makes.refuses r told, refl)
+halts c hs name did (Some o) Memory makes told = ([], (inl refl, ap (λ (l : Bytes). Some l) (sym (append-nil o))))
+halts c hs name did (Some o) (NoFile n) makes told = absurd (makes.no_missing n told)
+halts c hs name did (Some o) (FileFault n) makes told = absurd (makes.no_file_fault n told)
+halts c hs name did (Some o) WriteFault makes told = absurd (makes.no_write_fault told)
 
-pub export_stops : (c : Command) (s n : Bytes) (hs : List Held) (text : Bytes) (rest : List Bytes) (old : Option Bytes) (r : Result Effect Halt) (e : Halt) → c ≡ Iface s n → First hs text rest → ExportDid text (Err e) → r ≡ Err e → Performs c hs old old r
-export_stops c s n hs text rest old r e c_is first told r_is =
-    subst (λ (x : Command). Performs x hs old old r) (sym c_is)
-    (subst (λ (x : List Held). Performs (Iface s n) x old old r) (sym first.is)
-    (subst (λ (x : Result Effect Halt). Performs (Iface s n) (first.head ∷ first.others) old old x) (sym r_is)
-    (export_halts s n first.head first.others old e (export_at_first hs text rest (Err e) first told))))
+-- nothing was made
+pub stops : (c : Command) (hs : List Held) (name : Bytes) (did : Result Bytes Halt → Type 0) (old : Option Bytes) (r : Result Effect Halt) (e : Halt) → Makes c hs name did → did (Err e) → r ≡ Err e → Performs c hs old old r
+stops c hs name did old r e makes told is = subst (λ (x : Result Effect Halt). Performs c hs old old x) (sym is) (halts c hs name did old e makes told)
 
-export_gives : (s n : Bytes) (h : Held) (rest : List Held) (old : Option Bytes) (interface : Bytes) → ExportDid h.bytes (Ok interface) → Performs (Iface s n) (h ∷ rest) old old (Ok (Wrote n interface))
-unfolding Performs Gives
-export_gives s n h rest None interface told = tt
-export_gives s n h rest (Some o) interface told = ([], ((refl, (interface, (refl, told))), ap (λ (l : Bytes). Some l) (sym (append-nil o))))
+made_here : (c : Command) (hs : List Held) (name text : Bytes) (old : Option Bytes) → Gives c hs [] (Wrote name text) → Performs c hs old old (Ok (Wrote name text))
+unfolding Performs
+made_here c hs name text None gives = tt
+made_here c hs name text (Some o) gives = ([], (gives, ap (λ (l : Bytes). Some l) (sym (append-nil o))))
 
-pub export_done : (c : Command) (s n name : Bytes) (hs : List Held) (text : Bytes) (rest : List Bytes) (old : Option Bytes) (interface : Bytes) → c ≡ Iface s n → name ≡ n → First hs text rest → ExportDid text (Ok interface) → Performs c hs old old (Ok (Wrote name interface))
-export_done c s n name hs text rest old interface c_is name_is first told =
-    subst (λ (x : Command). Performs x hs old old (Ok (Wrote name interface))) (sym c_is)
-    (subst (λ (x : List Held). Performs (Iface s n) x old old (Ok (Wrote name interface))) (sym first.is)
-    (subst (λ (x : Bytes). Performs (Iface s n) (first.head ∷ first.others) old old (Ok (Wrote x interface))) (sym name_is)
-    (export_gives s n first.head first.others old interface (export_at_first hs text rest (Ok interface) first told))))
+pub made : (c : Command) (hs : List Held) (name copy text : Bytes) (did : Result Bytes Halt → Type 0) (old : Option Bytes) → Makes c hs name did → copy ≡ name → did (Ok text) → Performs c hs old old (Ok (Wrote copy text))
+made c hs name copy text did old makes is told = subst (λ (x : Bytes). Performs c hs old old (Ok (Wrote x text))) (sym is) (made_here c hs name text old (makes.gives text told))
 
--- Compile -----------------------------------------------------------------------------------
+exports : (s n : Bytes) (h : Held) (rest : List Held) → Makes (Iface s n) (h ∷ rest) n (λ r. ExportDid h.bytes r)
+unfolding Gives Refuses
+exports s n h rest = record {
+  gives = λ text told. (refl, (text, (refl, told)));
+  refuses = λ r told. told;
+  no_missing = λ x told. told;
+  no_file_fault = λ x told. told;
+  no_write_fault = λ told. told;
+}
 
-compile_halts : (s n : Bytes) (is : List Bytes) (h : Held) (rest : List Held) (old : Option Bytes) (e : Halt) → CompileDid h.bytes (bytes_of rest) (Err e) → Performs (Compile s n is) (h ∷ rest) old old (Err e)
-unfolding Performs Refuses
-compile_halts s n is h rest None e told = tt
-compile_halts s n is h rest (Some o) (Refused r) told = (told, refl)
-compile_halts s n is h rest (Some o) Memory told = ([], (inl refl, ap (λ (l : Bytes). Some l) (sym (append-nil o))))
-compile_halts s n is h rest (Some o) (NoFile x) told = absurd told
-compile_halts s n is h rest (Some o) (FileFault x) told = absurd told
-compile_halts s n is h rest (Some o) WriteFault told = absurd told
+pub export_makes : (c : Command) (s n : Bytes) (hs : List Held) (text : Bytes) (rest : List Bytes) → c ≡ Iface s n → First hs text rest → Makes c hs n (λ r. ExportDid text r)
+export_makes c s n hs text rest is first =
+    subst (λ (x : Command). Makes x hs n (λ r. ExportDid text r)) (sym is)
+    (subst (λ (l : List Held). Makes (Iface s n) l n (λ r. ExportDid text r)) (sym first.is)
+    (subst (λ (b : Bytes). Makes (Iface s n) (first.head ∷ first.others) n (λ r. ExportDid b r)) first.bytes_are
+    (exports s n first.head first.others)))
 
-at_first : (hs : List Held) (text : Bytes) (rest : List Bytes) (r : Result Bytes Halt) (first : First hs text rest) → CompileDid text rest r → CompileDid first.head.bytes (bytes_of first.others) r
-at_first hs text rest r first told =
-    subst (λ (x : Bytes). CompileDid x (bytes_of first.others) r) (sym first.bytes_are)
-    (subst (λ (l : List Bytes). CompileDid text l r) (sym first.rest_are) told)
+compiles : (s n : Bytes) (ifaces : List Bytes) (h : Held) (rest : List Held) → Makes (Compile s n ifaces) (h ∷ rest) n (λ r. CompileDid h.bytes (bytes_of rest) r)
+unfolding Gives Refuses
+compiles s n ifaces h rest = record {
+  gives = λ text told. (refl, (text, (refl, told)));
+  refuses = λ r told. told;
+  no_missing = λ x told. told;
+  no_file_fault = λ x told. told;
+  no_write_fault = λ told. told;
+}
 
-pub compile_stops : (c : Command) (s n : Bytes) (is : List Bytes) (hs : List Held) (text : Bytes) (rest : List Bytes) (old : Option Bytes) (r : Result Effect Halt) (e : Halt) → c ≡ Compile s n is → First hs text rest → CompileDid text rest (Err e) → r ≡ Err e → Performs c hs old old r
-compile_stops c s n is hs text rest old r e c_is first told r_is =
-    subst (λ (x : Command). Performs x hs old old r) (sym c_is)
-    (subst (λ (x : List Held). Performs (Compile s n is) x old old r) (sym first.is)
-    (subst (λ (x : Result Effect Halt). Performs (Compile s n is) (first.head ∷ first.others) old old x) (sym r_is)
-    (compile_halts s n is first.head first.others old e (at_first hs text rest (Err e) first told))))
+pub compile_makes : (c : Command) (s n : Bytes) (ifaces : List Bytes) (hs : List Held) (text : Bytes) (rest texts : List Bytes) → c ≡ Compile s n ifaces → First hs text rest → texts ≡ rest → Makes c hs n (λ r. CompileDid text texts r)
+compile_makes c s n ifaces hs text rest texts is first texts_are =
+    subst (λ (x : Command). Makes x hs n (λ r. CompileDid text texts r)) (sym is)
+    (subst (λ (l : List Held). Makes (Compile s n ifaces) l n (λ r. CompileDid text texts r)) (sym first.is)
+    (subst (λ (l : List Bytes). Makes (Compile s n ifaces) (first.head ∷ first.others) n (λ r. CompileDid text l r)) (first.rest_are ∙ sym texts_are)
+    (subst (λ (b : Bytes). Makes (Compile s n ifaces) (first.head ∷ first.others) n (λ r. CompileDid b (bytes_of first.others) r)) first.bytes_are
+    (compiles s n ifaces first.head first.others))))
 
-compile_gives : (s n : Bytes) (is : List Bytes) (h : Held) (rest : List Held) (old : Option Bytes) (object : Bytes) → CompileDid h.bytes (bytes_of rest) (Ok object) → Performs (Compile s n is) (h ∷ rest) old old (Ok (Wrote n object))
-unfolding Performs Gives
-compile_gives s n is h rest None object told = tt
-compile_gives s n is h rest (Some o) object told = ([], ((refl, (object, (refl, told))), ap (λ (l : Bytes). Some l) (sym (append-nil o))))
+links : (n : Bytes) (objects : List Bytes) (hs : List Held) → Makes (Link n objects) hs n (λ r. LinkDid (bytes_of hs) r)
+unfolding Gives Refuses
+links n objects hs = record {
+  gives = λ text told. (refl, (text, (refl, told)));
+  refuses = λ r told. told;
+  no_missing = λ x told. told;
+  no_file_fault = λ x told. told;
+  no_write_fault = λ told. told;
+}
 
-pub compile_done : (c : Command) (s n name : Bytes) (is : List Bytes) (hs : List Held) (text : Bytes) (rest : List Bytes) (old : Option Bytes) (object : Bytes) → c ≡ Compile s n is → name ≡ n → First hs text rest → CompileDid text rest (Ok object) → Performs c hs old old (Ok (Wrote name object))
-compile_done c s n name is hs text rest old object c_is name_is first told =
-    subst (λ (x : Command). Performs x hs old old (Ok (Wrote name object))) (sym c_is)
-    (subst (λ (x : List Held). Performs (Compile s n is) x old old (Ok (Wrote name object))) (sym first.is)
-    (subst (λ (x : Bytes). Performs (Compile s n is) (first.head ∷ first.others) old old (Ok (Wrote x object))) (sym name_is)
-    (compile_gives s n is first.head first.others old object (at_first hs text rest (Ok object) first told))))
-
--- Link --------------------------------------------------------------------------------------
-
-link_halts : (n : Bytes) (os : List Bytes) (hs : List Held) (old : Option Bytes) (e : Halt) → LinkDid (bytes_of hs) (Err e) → Performs (Link n os) hs old old (Err e)
-unfolding Performs Refuses
-link_halts n os hs None e told = tt
-link_halts n os hs (Some o) (Refused r) told = (told, refl)
-link_halts n os hs (Some o) Memory told = ([], (inl refl, ap (λ (l : Bytes). Some l) (sym (append-nil o))))
-link_halts n os hs (Some o) (NoFile x) told = absurd told
-link_halts n os hs (Some o) (FileFault x) told = absurd told
-link_halts n os hs (Some o) WriteFault told = absurd told
-
-pub link_stops : (c : Command) (n : Bytes) (os texts : List Bytes) (hs : List Held) (old : Option Bytes) (r : Result Effect Halt) (e : Halt) → c ≡ Link n os → bytes_of hs ≡ texts → LinkDid texts (Err e) → r ≡ Err e → Performs c hs old old r
-link_stops c n os texts hs old r e c_is are told r_is =
-    subst (λ (x : Command). Performs x hs old old r) (sym c_is)
-    (subst (λ (x : Result Effect Halt). Performs (Link n os) hs old old x) (sym r_is)
-    (link_halts n os hs old e (subst (λ (x : List Bytes). LinkDid x (Err e)) (sym are) told)))
-
-link_gives : (n : Bytes) (os : List Bytes) (hs : List Held) (old : Option Bytes) (text : Bytes) → LinkDid (bytes_of hs) (Ok text) → Performs (Link n os) hs old old (Ok (Wrote n text))
-unfolding Performs Gives
-link_gives n os hs None text told = tt
-link_gives n os hs (Some o) text told = ([], ((refl, (text, (refl, told))), ap (λ (l : Bytes). Some l) (sym (append-nil o))))
-
-pub link_done : (c : Command) (n name : Bytes) (os texts : List Bytes) (hs : List Held) (old : Option Bytes) (text : Bytes) → c ≡ Link n os → name ≡ n → bytes_of hs ≡ texts → LinkDid texts (Ok text) → Performs c hs old old (Ok (Wrote name text))
-link_done c n name os texts hs old text c_is name_is are told =
-    subst (λ (x : Command). Performs x hs old old (Ok (Wrote name text))) (sym c_is)
-    (subst (λ (x : Bytes). Performs (Link n os) hs old old (Ok (Wrote x text))) (sym name_is)
-    (link_gives n os hs old text (subst (λ (x : List Bytes). LinkDid x (Ok text)) (sym are) told)))
+pub link_makes : (c : Command) (n : Bytes) (objects texts : List Bytes) (hs : List Held) → c ≡ Link n objects → bytes_of hs ≡ texts → Makes c hs n (λ r. LinkDid texts r)
+link_makes c n objects texts hs is are =
+    subst (λ (x : Command). Makes x hs n (λ r. LinkDid texts r)) (sym is) (subst (λ (l : List Bytes). Makes (Link n objects) hs n (λ r. LinkDid l r)) are (links n objects hs))
 
 -- Run ---------------------------------------------------------------------------------------
 
--- what the bytes of a source's program say is what the source's module means
+-- what the bytes of a program of sources say is what the sources mean together
 pub run_means : (kind : Kind) (bytes : Bytes) (args : List Bytes) (turns : ℕ) (seen : Observation) → Stands kind bytes → TextRuns bytes args turns seen → RunMeans kind bytes args turns seen
 unfolding RunMeans Stands
 run_means as_given bytes args turns seen stands runs = runs
 run_means (as_interface source) bytes args turns seen stands runs = runs
 run_means (as_object source texts) bytes args turns seen stands runs = runs
-run_means (as_program source texts) bytes args turns seen stands runs = record {
-  module_tree = stands.module_tree;
-  is_module = stands.is_module;
-  same = λ m is. runs.is ∙ ap (λ (items : List Item). cm items no_input args turns) (sym (runs.program.only stands.items stands.text)) ∙ stands.same m is no_input args turns;
+run_means (as_program compilations) bytes args turns seen stands runs = record {
+  program = stands.program;
+  is_program = stands.is_program;
+  same = λ others is. runs.is ∙ ap (λ (items : List Item). cm items no_input args turns) (sym (runs.program.only stands.items stands.text)) ∙ stands.same others is no_input args turns;
 }
 
 -- the effect of a run
@@ -221,6 +206,3 @@ first_text hs texts slice item bytes are slice_is some item_is bytes_is =
 
 pub others_are : (texts slice : List Bytes) (list : List Bytes) → slice ≡ texts → list ≡ take (length slice - 1) (drop 1 slice) → list ≡ drop 1 texts
 others_are texts slice list slice_is list_is = list_is ∙ all_others slice ∙ ap (λ (l : List Bytes). drop 1 l) slice_is
-
-pub compile_told : (texts list : List Bytes) (text : Bytes) (r : Result Bytes Halt) → list ≡ drop 1 texts → CompileDid text list r → CompileDid text (drop 1 texts) r
-compile_told texts list text r is told = subst (λ (l : List Bytes). CompileDid text l r) is told

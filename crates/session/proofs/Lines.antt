@@ -1,29 +1,21 @@
 -- One line: its steps put together, once for all commands.
-use Rattle.std.proofs.Common.{◌≡◌, ℕ, suc, Bool, true, false, cond, IsTrue, nat_eq, length, List, [], ◌∷◌, ◌++◌, map, Option, Some, None, Result, Ok, Err, inl, inr, refl, ap, sym, ◌∙◌, arith, subst, append_assoc, unwrap_or, Contains}
+use Rattle.std.proofs.Common.{◌≡◌, Bool, true, false, cond, List, [], ◌∷◌, ◌++◌, map, Option, Some, None, Result, Ok, Err, inl, inr, refl, ap, sym, ◌∙◌, arith, subst, append_assoc, unwrap_or, Contains}
 use Rattle.std.proofs.lemmas.List.{append-nil}
-use Rattle.std.proofs.lemmas.Bool.Decides.{nat_tests}
 use Rattle.std.specs.Ordering.{nat_cmp, eq_by_cmp}
 use Rattle.std.specs.Cmp.Lexicographic.{slice_cmp, nat_list_cmp_total}
 use Rattle.std.specs.FinMap.{get, insert, get-insert}
 use Rattle.base_io.specs.Contents.{Bytes, Contents, KeepsOthers}
 use Rattle.base_io.specs.declared.end.End.{End}
-use Rattle.core_tree.specs.declared.tree.VarId.{VarId}
-use Rattle.core_tree.specs.Tree.{FunctionTree, ModuleTree}
-use Rattle.core_tree.specs.WellFormed.{takes_as_many, IsMain, IsWellFormed}
-use Rattle.meaning.specs.Program.{src, main_of, IsProgram}
-use Rattle.c_tree.specs.Spelling.{CText}
-use Rattle.plan_rules.specs.Joined.{joined}
-use Rattle.object_text.specs.Format.{ObjectTree, ObjectText}
 use Rattle.unit_compile.specs.Compilation.{Exported, Compiled}
-use Rattle.linker.specs.Links.{IsAlone, Linked}
-use Rattle.simulation.specs.Law.{KeepsMeaning}
+use Rattle.linker.specs.Links.{Linked}
+use Rattle.whole_program.specs.Law.{Compilation, AreCompiled, LinkKeepsMeaning}
 use Rattle.commands.specs.declared.command.Command.{Command}
 use Rattle.commands.specs.declared.command.Command.TheVariants.{Blank, Iface, Compile, Link, Run}
 use Rattle.session.specs.declared.answer.Effect.{Effect}
 use Rattle.session.specs.declared.answer.Effect.TheVariants.{Nothing, Wrote, Ran}
 use Rattle.session.specs.declared.answer.Halt.{Halt}
 use Rattle.session.specs.declared.answer.Halt.TheVariants.{NoFile, FileFault, WriteFault, Refused, Memory}
-use Rattle.session.specs.Works.{Kind, as_given, as_interface, as_object, as_program, Held, Stands, MeansSource, AllStand, bytes_of, Gives, MayAdd, reads_of, writes_of, kind_of_work, kind_of_linked, kind_of_joined}
+use Rattle.session.specs.Works.{Kind, as_given, as_interface, as_object, as_program, Held, Stands, AllStand, bytes_of, Gives, MayAdd, reads_of, writes_of, kind_of_work, kind_of_linked, kind_of_joined, compilation_of, compilations_of, onto_compilations}
 use Rattle.session.specs.Outside.{missing, ReadAll, WroteOne}
 use Rattle.session.specs.Done.{Performs}
 use Rattle.session.specs.Steps.{Finished}
@@ -43,62 +35,32 @@ gives_writes (Link n os) hs added name bytes g = let e = g.1.1.0 in let same : n
 gives_writes (Run p t a) [] added name bytes g = absurd g
 gives_writes (Run p t a) (h ∷ hs) added name bytes g = absurd (let e = g.1.2 in cc)
 
-more_than_one : (n : ℕ) → nat_eq (suc (suc n)) 1 ≡ true → ⊥
-more_than_one n one = grind (arith, nat_tests)
-
-one_parameter : (xs : List VarId) → IsTrue (nat_eq (length xs) 1) → (x : VarId) × (xs ≡ x ∷ [])
-one_parameter [] one = let no : false ≡ true = one in absurd (cc)
-one_parameter (x ∷ []) one = (x, refl)
-one_parameter (x ∷ y ∷ xs) one = absurd (more_than_one (length xs) one)
-
--- a well-formed module that takes nothing from another one and has a main function is a program by itself
-is_program : (m : ModuleTree) (main : Bytes) → IsWellFormed m → m.imports ≡ [] → m.uses ≡ [] → m.main ≡ Some main → IsProgram m
-is_program m main formed no_imports no_uses has_main = with_function (main_of m (Some main)) refl (subst (λ (o : Option Bytes). IsMain m o) has_main formed.main)
-  where
-    with_function : (found : Option FunctionTree) → main_of m (Some main) ≡ found → IsTrue (takes_as_many 1 found) → IsProgram m
-    with_function None is one = let no : false ≡ true = one in absurd (cc)
-    with_function (Some f) is one = record {
-      no_imports = no_imports;
-      no_uses = no_uses;
-      function = f;
-      is = ap (λ (o : Option Bytes). main_of m o) has_main ∙ is;
-      one = one_parameter f.params one;
-    }
-
--- the text of one object of a source's module, linked, means what the module means
-linked_means : KeepsMeaning → (source : Bytes) (texts : List Bytes) (bytes text : Bytes) → Compiled source texts bytes → Linked (bytes ∷ []) text → MeansSource source texts text
-unfolding KeepsMeaning
-linked_means law source texts bytes text made linked =
-    let m : ModuleTree = made.module_tree in
-    let o : ObjectTree = made.object in
-    let bytes_are : bytes ≡ linked.bytes = let e = linked.one in cc in
-    let same : o ≡ linked.object = linked.only o (subst (λ (b : Bytes). ObjectText b o) bytes_are made.is_text) in
-    let alone : IsAlone o linked.main = subst (λ (x : ObjectTree). IsAlone x linked.main) (sym same) linked.alone in
-    let spelled : CText text (joined o.module_name linked.main o.items) = subst (λ (x : ObjectTree). CText text (joined x.module_name linked.main x.items)) (sym same) linked.is_text in
-    let has_main : m.main ≡ Some linked.main = sym made.is_object.main ∙ alone.has_main in
-    let program = is_program m linked.main made.formed (sym made.is_object.imports ∙ alone.no_imports) (sym made.is_object.uses ∙ alone.no_uses) has_main in
-    let faithful = law m linked.main o.items has_main program made.is_object.translated in
-    record {
-      items = joined m.name linked.main o.items;
-      text = subst (λ (n : Bytes). CText text (joined n linked.main o.items)) made.is_object.name spelled;
-      checked = faithful.checked;
-      module_tree = m;
-      is_module = made.is_module;
-      same = λ other is input args turns. faithful.same input args turns ∙ ap (λ (x : ModuleTree). src x input args turns) (sym (made.only other is));
-    }
-
-joined_stands : KeepsMeaning → (kind : Kind) (bytes text : Bytes) → Stands kind bytes → Linked (bytes ∷ []) text → Stands (kind_of_joined kind) text
+-- an object of this script, and then others
+compiled_before : (kind : Kind) (bytes : Bytes) (texts : List Bytes) (known : Option (List Compilation)) (cs : List Compilation) → Stands kind bytes → ((others : List Compilation) → known ≡ Some others → AreCompiled others texts) → onto_compilations (compilation_of kind) known ≡ Some cs → AreCompiled cs (bytes ∷ texts)
 unfolding Stands
-joined_stands law as_given bytes text stands linked = tt
-joined_stands law (as_interface source) bytes text stands linked = tt
-joined_stands law (as_object source texts) bytes text stands linked = linked_means law source texts bytes text stands linked
-joined_stands law (as_program source texts) bytes text stands linked = tt
+compiled_before as_given bytes texts known cs stands compiled is = absurd (cc)
+compiled_before (as_interface source) bytes texts known cs stands compiled is = absurd (cc)
+compiled_before (as_program sources) bytes texts known cs stands compiled is = absurd (cc)
+compiled_before (as_object source interfaces) bytes texts None cs stands compiled is = absurd (cc)
+compiled_before (as_object source interfaces) bytes texts (Some others) [] stands compiled is = absurd (cc)
+compiled_before (as_object source interfaces) bytes texts (Some others) (c ∷ cs) stands compiled is =
+    let first : c ≡ record { source = source; interfaces = interfaces } = cc in
+    let rest : cs ≡ others = cc in
+    (subst (λ (x : Compilation). Compiled x.source x.interfaces bytes) (sym first) stands, subst (λ (l : List Compilation). AreCompiled l texts) (sym rest) (compiled others refl))
 
-linked_stands : KeepsMeaning → (hs : List Held) (text : Bytes) → AllStand hs → Linked (bytes_of hs) text → Stands (kind_of_linked hs) text
-unfolding Stands
-linked_stands law [] text all linked = tt
-linked_stands law (h ∷ []) text all linked = joined_stands law h.kind h.bytes text all.0 linked
-linked_stands law (h ∷ n ∷ hs) text all linked = tt
+are_compiled : (hs : List Held) (cs : List Compilation) → AllStand hs → compilations_of hs ≡ Some cs → AreCompiled cs (bytes_of hs)
+are_compiled [] [] all is = tt
+are_compiled [] (c ∷ cs) all is = absurd (cc)
+are_compiled (h ∷ hs) cs all is = compiled_before h.kind h.bytes (bytes_of hs) (compilations_of hs) cs all.0 (λ others known. are_compiled hs others all.1 known) is
+
+joined_stands : LinkKeepsMeaning → (known : Option (List Compilation)) (objects : List Bytes) (text : Bytes) → ((cs : List Compilation) → known ≡ Some cs → AreCompiled cs objects) → Linked objects text → Stands (kind_of_joined known) text
+unfolding Stands LinkKeepsMeaning
+joined_stands law None objects text compiled linked = tt
+joined_stands law (Some cs) objects text compiled linked = law cs objects text (compiled cs refl) linked
+
+-- the text of objects of this script means what their sources mean together
+linked_stands : LinkKeepsMeaning → (hs : List Held) (text : Bytes) → AllStand hs → Linked (bytes_of hs) text → Stands (kind_of_linked hs) text
+linked_stands law hs text all linked = joined_stands law (compilations_of hs) (bytes_of hs) text (λ cs known. are_compiled hs cs all known) linked
 
 exported_stands : (source text bytes : Bytes) → Exported source text → bytes ≡ text → Stands (as_interface source) bytes
 unfolding Stands
@@ -109,7 +71,7 @@ unfolding Stands
 compiled_stands source texts text bytes made is = subst (λ (b : Bytes). Compiled source texts b) (sym is) made
 
 -- what it writes is as is then known of it
-pub gives_stands : KeepsMeaning → (c : Command) (hs : List Held) (added name bytes : Bytes) → AllStand hs → Gives c hs added (Wrote name bytes) → Stands (kind_of_work c hs) bytes
+pub gives_stands : LinkKeepsMeaning → (c : Command) (hs : List Held) (added name bytes : Bytes) → AllStand hs → Gives c hs added (Wrote name bytes) → Stands (kind_of_work c hs) bytes
 unfolding Gives
 gives_stands law Blank hs added name bytes all g = absurd (let e = g.1 in cc)
 gives_stands law (Iface s n) [] added name bytes all g = absurd g.1
@@ -199,7 +161,7 @@ steps_of : (c : Command) (s : State) (base : Bytes) (written : Option Bytes) (ef
 steps_of c s base written effect w = record { there = w.there; added = w.added; effect = effect; gives = w.gives; then = refl }
 
 -- a file was to be written
-wrote : KeepsMeaning → (c : Command) (s : State) (base : Bytes) (contents' : Option Contents) (written : Option Bytes) (ends' : List End) (name bytes : Bytes) (r : Result (Unit {0}) Halt) → Worked c s base written (Wrote name bytes) → ends' ≡ s.ends → WroteOne (Some s.files) contents' name bytes r → LineDid c s r base contents' written ends'
+wrote : LinkKeepsMeaning → (c : Command) (s : State) (base : Bytes) (contents' : Option Contents) (written : Option Bytes) (ends' : List End) (name bytes : Bytes) (r : Result (Unit {0}) Halt) → Worked c s base written (Wrote name bytes) → ends' ≡ s.ends → WroteOne (Some s.files) contents' name bytes r → LineDid c s r base contents' written ends'
 unfolding LineDid Stops Remains Kept
 wrote law c s base contents' written ends' name bytes (Ok done) w ends told =
     let stands = gives_stands law c (map (held s) (reads_of c)) w.added name bytes (all_stand s (reads_of c) w.kept) w.gives in (
@@ -235,7 +197,7 @@ unfolding Kept
 ran_kept c s added end kept = kept
 
 -- all was done, or what it made could not be kept
-line_kept : KeepsMeaning → (c : Command) (s : State) (base : Bytes) (contents contents' : Option Contents) (written : Option Bytes) (ends ends' : List End) (effect : Effect) (r : Result (Unit {0}) Halt) → contents ≡ Some s.files → ends ≡ s.ends → Worked c s base written effect → Finished contents contents' ends ends' effect r → LineDid c s r base contents' written ends'
+line_kept : LinkKeepsMeaning → (c : Command) (s : State) (base : Bytes) (contents contents' : Option Contents) (written : Option Bytes) (ends ends' : List End) (effect : Effect) (r : Result (Unit {0}) Halt) → contents ≡ Some s.files → ends ≡ s.ends → Worked c s base written effect → Finished contents contents' ends ends' effect r → LineDid c s r base contents' written ends'
 unfolding LineDid Stops Remains
 line_kept law c s base contents contents' written ends ends' Nothing (Ok done) files ends_are w noted = (
   after (kind_of_work c (map (held s) (reads_of c))) w.added Nothing s,
@@ -273,7 +235,7 @@ line_kept law c s base contents contents' written ends ends' (Ran end) (Err h) f
       },
     )
 
-pub line_finished : KeepsMeaning → (c : Command) (s : State) (base : Bytes) (contents contents' : Option Contents) (written' : Option Bytes) (ends ends' : List End) (effect : Effect) (r : Result (Unit {0}) Halt) → contents ≡ Some s.files → Kept s → ends ≡ s.ends → missing s.files (reads_of c) ≡ None → Performs c (map (held s) (reads_of c)) (Some (base ++ s.output)) written' (Ok effect) → Finished contents contents' ends ends' effect r → LineDid c s r base contents' written' ends'
+pub line_finished : LinkKeepsMeaning → (c : Command) (s : State) (base : Bytes) (contents contents' : Option Contents) (written' : Option Bytes) (ends ends' : List End) (effect : Effect) (r : Result (Unit {0}) Halt) → contents ≡ Some s.files → Kept s → ends ≡ s.ends → missing s.files (reads_of c) ≡ None → Performs c (map (held s) (reads_of c)) (Some (base ++ s.output)) written' (Ok effect) → Finished contents contents' ends ends' effect r → LineDid c s r base contents' written' ends'
 line_finished law c s base contents contents' written' ends ends' effect r files kept ends_are there told noted =
     line_kept law c s base contents contents' written' ends ends' effect r files ends_are (worked c s base written' effect kept there told) noted
 

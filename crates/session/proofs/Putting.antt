@@ -44,10 +44,11 @@ put_failed (Some old) mid new bytes rest e so_far one =
     let step : Keeps (Some (old ++ so_far.0)) new = subst (λ (m : Option Bytes). Keeps m new) so_far.1.1 one in
     (so_far.0, (rest, so_far.1.0, kept (old ++ so_far.0) new step))
 
--- Texts of five pieces ----------------------------------------------------------------------
+-- Texts in pieces ---------------------------------------------------------------------------
+
+pub one_more_piece : (a b c t u : Bytes) → t ≡ a ++ b → u ≡ t ++ c → u ≡ a ++ (b ++ c)
+one_more_piece a b c t u t_is u_is = u_is ∙ ap (λ (l : Bytes). l ++ c) t_is ∙ append_assoc a b c
 
 pub five_pieces : (a b c d e t u v w : Bytes) → t ≡ a ++ b → u ≡ t ++ c → v ≡ u ++ d → w ≡ v ++ e → w ≡ a ++ (b ++ c ++ d ++ e)
 five_pieces a b c d e t u v w t_is u_is v_is w_is =
-    let first : u ≡ a ++ (b ++ c) = u_is ∙ ap (λ (l : Bytes). l ++ c) t_is ∙ append_assoc a b c in
-    let next : v ≡ a ++ (b ++ c ++ d) = v_is ∙ ap (λ (l : Bytes). l ++ d) first ∙ append_assoc a (b ++ c) d in
-    w_is ∙ ap (λ (l : Bytes). l ++ e) next ∙ append_assoc a (b ++ c ++ d) e
+    one_more_piece a (b ++ c ++ d) e v w (one_more_piece a (b ++ c) d u v (one_more_piece a b c t u t_is u_is) v_is) w_is

@@ -12,13 +12,15 @@ use Rattle.c_machine.specs.Runs.{WrotePart}
 use Rattle.unit_compile.specs.declared.error.UnitErr.{UnitErr}
 use Rattle.unit_compile.specs.declared.error.UnitErr.TheVariants as unit
 use Rattle.unit_compile.specs.Compilation.{Exported, Compiled}
-use Rattle.linker.specs.Links.{Linked, NotLinked}
+use Rattle.linker.specs.declared.linking.LinkErr.{LinkErr}
+use Rattle.linker.specs.declared.linking.LinkErr.TheVariants as linking
+use Rattle.linker.specs.Links.{Linked}
 use Rattle.commands.specs.declared.command.Command.{Command}
 use Rattle.session.specs.declared.answer.Effect.{Effect}
-use Rattle.session.specs.declared.answer.Refusal.TheVariants.{NotBuilt, Syntax, Limit}
+use Rattle.session.specs.declared.answer.Refusal.TheVariants.{NotBuilt, Syntax, Limit, MissingModule, MissingName}
 use Rattle.session.specs.declared.answer.Halt.{Halt}
 use Rattle.session.specs.declared.answer.Halt.TheVariants.{NoFile, FileFault, WriteFault, Refused, Memory}
-use Rattle.session.specs.Works.{Held, Gives, Refuses, MayAdd, IsProgramText, TextRuns, printed, ExportRefuses, CompileRefuses, NotRun}
+use Rattle.session.specs.Works.{Held, Gives, Refuses, MayAdd, IsProgramText, TextRuns, printed, ExportRefuses, CompileRefuses, LinkRefuses, NotRun}
 
 -- why a line is not done whose source isn't compiled
 abbrev pub halt_of : UnitErr → Halt
@@ -26,6 +28,13 @@ halt_of (unit.Syntax at) = Refused (Syntax at)
 halt_of (unit.Limit kind) = Refused (Limit kind)
 halt_of unit.NotBuilt = Refused NotBuilt
 halt_of unit.Memory = Memory
+
+-- why a line is not done whose objects aren't linked
+abbrev pub halt_of_link : LinkErr → Halt
+halt_of_link (linking.MissingModule n m) = Refused (MissingModule n m)
+halt_of_link (linking.MissingName n m name) = Refused (MissingName n m name)
+halt_of_link linking.NotBuilt = Refused NotBuilt
+halt_of_link linking.Memory = Memory
 
 abbrev pub ExportDid : Bytes → Result Bytes Halt → Type 0
 ExportDid source (Ok text) = Exported source text
@@ -45,7 +54,7 @@ CompileDid source texts (Err WriteFault) = ⊥
 
 abbrev pub LinkDid : List Bytes → Result Bytes Halt → Type 0
 LinkDid objects (Ok text) = Linked objects text
-LinkDid objects (Err (Refused r)) = (r ≡ NotBuilt) × NotLinked objects
+LinkDid objects (Err (Refused r)) = LinkRefuses objects r
 LinkDid objects (Err Memory) = Unit {0}
 LinkDid objects (Err (NoFile n)) = ⊥
 LinkDid objects (Err (FileFault n)) = ⊥

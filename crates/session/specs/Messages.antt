@@ -8,7 +8,7 @@ use Rattle.scheme_data.specs.declared.datum.LimitKind.TheVariants.{Bytes as TheB
 use Rattle.session.specs.declared.answer.Answer.{Answer}
 use Rattle.session.specs.declared.answer.Answer.TheVariants as answer
 use Rattle.session.specs.declared.answer.Refusal.{Refusal}
-use Rattle.session.specs.declared.answer.Refusal.TheVariants.{NotBuilt, Syntax, Limit}
+use Rattle.session.specs.declared.answer.Refusal.TheVariants.{NotBuilt, Syntax, Limit, MissingModule, MissingName}
 
 -- The status --------------------------------------------------------------------------------
 
@@ -45,6 +45,8 @@ refusal_words NotBuilt = codes ": refusal 0"
 refusal_words (Syntax at) = codes ": refusal 1 " ++ decimal_text at.line ++ codes ":" ++ decimal_text at.column
 refusal_words (Limit TheBytes) = codes ": refusal 2 Bytes"
 refusal_words (Limit Depth) = codes ": refusal 2 Depth"
+refusal_words (MissingModule n m) = codes ": refusal 17 " ++ decimal_text n ++ codes " " ++ m
+refusal_words (MissingName n m name) = codes ": refusal 18 " ++ decimal_text n ++ codes " " ++ m ++ codes " " ++ name
 
 -- one line without its end, and nothing where all was done
 abbrev pub message_of : Answer → Bytes

@@ -1,5 +1,5 @@
 -- What each command reads, writes, gives and refuses. A further command adds its equations here.
-use Rattle.std.specs.Prelude.{◌≡◌, ◌⊎◌, ℕ, List, [], ◌∷◌, ◌++◌, map, codes}
+use Rattle.std.specs.Prelude.{◌≡◌, ◌⊎◌, ℕ, List, [], ◌∷◌, ◌++◌, map, codes, Option, Some, None}
 use Rattle.scheme_data.specs.Decimal.{decimal_text}
 use Rattle.scheme_data.specs.declared.datum.Place.{Place}
 use Rattle.scheme_read.specs.declared.error.ReadErr.TheVariants as reading
@@ -14,23 +14,26 @@ use Rattle.c_tree.specs.Code.{Item}
 use Rattle.c_tree.specs.Spelling.{CText}
 use Rattle.c_meaning.specs.Program.{cm}
 use Rattle.c_meaning.specs.Checked.{IsChecked}
-use Rattle.unit_compile.specs.Compilation.{IsModuleOf, Exported, NotExported, Compiled, NotCompiled}
+use Rattle.unit_compile.specs.Compilation.{Exported, NotExported, Compiled, NotCompiled}
+use Rattle.linker.specs.declared.linking.LinkErr.TheVariants as linking
 use Rattle.linker.specs.Links.{Linked, NotLinked}
+use Rattle.whole_program.specs.Sources.{IsProgramOf, MeansSources}
+use Rattle.whole_program.specs.Law.{Compilation, sources_of}
 use Rattle.commands.specs.declared.command.Command.{Command}
 use Rattle.commands.specs.declared.command.Command.TheVariants.{Blank, Iface, Compile, Link, Run}
 use Rattle.session.specs.declared.answer.Refusal.{Refusal}
-use Rattle.session.specs.declared.answer.Refusal.TheVariants.{NotBuilt, Syntax, Limit}
+use Rattle.session.specs.declared.answer.Refusal.TheVariants.{NotBuilt, Syntax, Limit, MissingModule, MissingName}
 use Rattle.session.specs.declared.answer.Effect.{Effect}
 use Rattle.session.specs.declared.answer.Effect.TheVariants.{Nothing, Wrote, Ran}
 
 -- What a name has ---------------------------------------------------------------------------
 
--- what a script knows of a file: it was handed in, or holds the interface of a source, or the object or the program of a source and the interface texts with which it was compiled
+-- what a script knows of a file: it was handed in, or holds the interface of a source, the object of a source and the interface texts with which it was compiled, or the program of such objects
 pub data Kind : Type 0 where
   as_given : Kind
   as_interface : Bytes → Kind
   as_object : Bytes → List Bytes → Kind
-  as_program : Bytes → List Bytes → Kind
+  as_program : List Compilation → Kind
 
 -- what was read, and what is known of it
 pub record Held : Type 0 where
@@ -40,21 +43,12 @@ pub record Held : Type 0 where
 abbrev pub bytes_of : List Held → List Bytes
 bytes_of hs = map (λ h. h.bytes) hs
 
--- a program of the source: for every input, arguments and number of turns it prints and ends as the source's module does by its plain meaning
-pub record MeansSource (source : Bytes) (texts : List Bytes) (bytes : Bytes) : Type 0 where
-  pub items : List Item
-  pub text : CText bytes items
-  pub checked : IsChecked items
-  pub module_tree : ModuleTree
-  pub is_module : IsModuleOf source texts module_tree
-  pub same : (m : ModuleTree) → IsModuleOf source texts m → (input : Bytes) (args : List Bytes) (turns : ℕ) → cm items input args turns ≡ src m input args turns
-
 -- the bytes are as is known of them
 unfoldable pub Stands : Kind → Bytes → Type 0
 Stands as_given bytes = Unit {0}
 Stands (as_interface source) bytes = Exported source bytes
 Stands (as_object source texts) bytes = Compiled source texts bytes
-Stands (as_program source texts) bytes = MeansSource source texts bytes
+Stands (as_program compilations) bytes = MeansSources (sources_of compilations) bytes
 
 abbrev pub AllStand : List Held → Type 0
 AllStand [] = Unit {0}
@@ -86,16 +80,29 @@ abbrev pub kind_of_compiled : List Held → Kind
 kind_of_compiled [] = as_given
 kind_of_compiled (h ∷ hs) = as_object h.bytes (bytes_of hs)
 
-abbrev pub kind_of_joined : Kind → Kind
-kind_of_joined as_given = as_given
-kind_of_joined (as_interface source) = as_given
-kind_of_joined (as_object source texts) = as_program source texts
-kind_of_joined (as_program source texts) = as_given
+abbrev pub compilation_of : Kind → Option Compilation
+compilation_of as_given = None
+compilation_of (as_interface source) = None
+compilation_of (as_object source texts) = Some (record { source = source; interfaces = texts })
+compilation_of (as_program compilations) = None
+
+abbrev pub onto_compilations : Option Compilation → Option (List Compilation) → Option (List Compilation)
+onto_compilations None cs = None
+onto_compilations (Some c) None = None
+onto_compilations (Some c) (Some cs) = Some (c ∷ cs)
+
+-- how each was compiled, where all are objects of this script
+abbrev pub compilations_of : List Held → Option (List Compilation)
+compilations_of [] = Some []
+compilations_of (h ∷ hs) = onto_compilations (compilation_of h.kind) (compilations_of hs)
+
+-- of a program with an object that was handed in nothing is known but its bytes
+abbrev pub kind_of_joined : Option (List Compilation) → Kind
+kind_of_joined None = as_given
+kind_of_joined (Some cs) = as_program cs
 
 abbrev pub kind_of_linked : List Held → Kind
-kind_of_linked [] = as_given
-kind_of_linked (h ∷ []) = kind_of_joined h.kind
-kind_of_linked (h ∷ next ∷ hs) = as_given
+kind_of_linked hs = kind_of_joined (compilations_of hs)
 
 -- what is then known of the name that it writes
 abbrev pub kind_of_work : Command → List Held → Kind
@@ -137,18 +144,18 @@ pub record TextRuns (bytes : Bytes) (args : List Bytes) (turns : ℕ) (seen : Ob
   pub program : IsProgramText bytes items
   pub is : seen ≡ cm items no_input args turns
 
--- a run of what the source's module means
-pub record SourceRuns (source : Bytes) (texts : List Bytes) (args : List Bytes) (turns : ℕ) (seen : Observation) : Type 0 where
-  pub module_tree : ModuleTree
-  pub is_module : IsModuleOf source texts module_tree
-  pub same : (m : ModuleTree) → IsModuleOf source texts m → seen ≡ src m no_input args turns
+-- a run of what the sources mean together
+pub record SourcesRun (sources : List Bytes) (args : List Bytes) (turns : ℕ) (seen : Observation) : Type 0 where
+  pub program : List ModuleTree
+  pub is_program : IsProgramOf sources program
+  pub same : (others : List ModuleTree) → IsProgramOf sources others → seen ≡ src others no_input args turns
 
--- a run of a source's program is by the source, and of all else by the bytes
+-- a run of a program of sources is by the sources, and of all else by the bytes
 unfoldable pub RunMeans : Kind → Bytes → List Bytes → ℕ → Observation → Type 0
 RunMeans as_given bytes args turns seen = TextRuns bytes args turns seen
 RunMeans (as_interface source) bytes args turns seen = TextRuns bytes args turns seen
 RunMeans (as_object source texts) bytes args turns seen = TextRuns bytes args turns seen
-RunMeans (as_program source texts) bytes args turns seen = SourceRuns source texts args turns seen
+RunMeans (as_program compilations) bytes args turns seen = SourcesRun (sources_of compilations) args turns seen
 
 -- What a command gives ----------------------------------------------------------------------
 
@@ -186,11 +193,23 @@ abbrev pub ExportRefuses : Bytes → Refusal → Type 0
 ExportRefuses source NotBuilt = NotExported source
 ExportRefuses source (Syntax at) = IsFault source (reading.Syntax at)
 ExportRefuses source (Limit kind) = (at : Place) × IsFault source (reading.Limit kind at)
+ExportRefuses source (MissingModule n m) = ⊥
+ExportRefuses source (MissingName n m name) = ⊥
 
 abbrev pub CompileRefuses : Bytes → List Bytes → Refusal → Type 0
 CompileRefuses source texts NotBuilt = NotCompiled source texts
 CompileRefuses source texts (Syntax at) = IsFault source (reading.Syntax at)
 CompileRefuses source texts (Limit kind) = (at : Place) × IsFault source (reading.Limit kind at)
+CompileRefuses source texts (MissingModule n m) = ⊥
+CompileRefuses source texts (MissingName n m name) = ⊥
+
+-- objects are refused for what they lack, or as not built
+abbrev pub LinkRefuses : List Bytes → Refusal → Type 0
+LinkRefuses objects NotBuilt = NotLinked objects linking.NotBuilt
+LinkRefuses objects (Syntax at) = ⊥
+LinkRefuses objects (Limit kind) = ⊥
+LinkRefuses objects (MissingModule n m) = NotLinked objects (linking.MissingModule n m)
+LinkRefuses objects (MissingName n m name) = NotLinked objects (linking.MissingName n m name)
 
 abbrev pub NotRun : Bytes → Type 0
 NotRun bytes = (items : List Item) → CText bytes items → IsChecked items → ⊥
@@ -202,6 +221,6 @@ Refuses (Iface source out) [] refusal = ⊥
 Refuses (Iface source out) (h ∷ hs) refusal = ExportRefuses h.bytes refusal
 Refuses (Compile source out ifaces) [] refusal = ⊥
 Refuses (Compile source out ifaces) (h ∷ hs) refusal = CompileRefuses h.bytes (bytes_of hs) refusal
-Refuses (Link out objects) hs refusal = (refusal ≡ NotBuilt) × NotLinked (bytes_of hs)
+Refuses (Link out objects) hs refusal = LinkRefuses (bytes_of hs) refusal
 Refuses (Run program turns args) [] refusal = ⊥
 Refuses (Run program turns args) (h ∷ hs) refusal = (refusal ≡ NotBuilt) × NotRun h.bytes

@@ -3,7 +3,7 @@ ghost use Rattle.std.specs.Prelude.{◌≡◌, ◌≤◌, ◌<◌, ◌∷◌, Li
 ghost use Rattle.base_io.specs.Causes.{Rose};
 ghost use Rattle.base_io.specs.Contents.{Bytes};
 ghost use Rattle.session.specs.Works.{Held, AllStand, bytes_of, reads_of};
-ghost use Rattle.session.specs.Done.{halt_of, ExportDid, CompileDid, LinkDid, Performs};
+ghost use Rattle.session.specs.Done.{halt_of, halt_of_link, ExportDid, CompileDid, LinkDid, Performs};
 
 use crate::answer::{Effect, Halt, Refusal};
 use crate::running::run;
@@ -51,6 +51,22 @@ fn halt_for(refused: UnitErr) -> Halt
     }
 }
 
+/// Why a line is not done whose objects aren't linked.
+fn halt_for_link(refused: LinkErr) -> Halt
+    ensures { result ≡ halt_of_link refused }
+{
+    match refused {
+        LinkErr::MissingModule(number, module_name) => {
+            Halt::Refused(Refusal::MissingModule(number, module_name))
+        }
+        LinkErr::MissingName(number, module_name, name) => {
+            Halt::Refused(Refusal::MissingName(number, module_name, name))
+        }
+        LinkErr::NotBuilt => Halt::Refused(Refusal::NotBuilt),
+        LinkErr::Memory => Halt::Memory,
+    }
+}
+
 fn export(alloc: Global, source: &[u8]) -> Result<Text, Halt>
     ensures told { ExportDid source.now result }
     ensures no_file_fault { (n : Bytes) → IsErrOf result (Halt.FileFault n) → ⊥ }
@@ -72,11 +88,7 @@ fn join(alloc: Global, objects: &TextList) -> Result<Text, Halt>
     ensures no_file_fault { (n : Bytes) → IsErrOf result (Halt.FileFault n) → ⊥ }
     ensures no_write_fault { IsErrOf result Halt.WriteFault → ⊥ }
 {
-    match link(alloc, objects) {
-        Ok(text) => Ok(text),
-        Err(LinkErr::NotBuilt) => Err(Halt::Refused(Refusal::NotBuilt)),
-        Err(LinkErr::Memory) => Err(Halt::Memory),
-    }
+    link(alloc, objects).map_err(halt_for_link)
 }
 
 /// Does a command with what was read for it.

@@ -5,8 +5,8 @@ ghost use Rattle.session.specs.Scripts.{answer_of};
 use base_io::{End, Ends};
 use scheme_data::{LimitKind, OutOfMemory, Place, Text};
 
-/// Why a line is refused.
-#[derive(Clone, Copy, Debug, PartialEq, Eq)]
+/// Why a line is refused. Objects of a link are numbered from 1.
+#[derive(Drop, Debug)]
 pub enum Refusal {
     /// It wants what isn't built, as do objects and programs that aren't read.
     NotBuilt,
@@ -14,6 +14,10 @@ pub enum Refusal {
     Syntax(Place),
     /// Its source, or the script, has more than may be.
     Limit(LimitKind),
+    /// The object of this number imports a module that no object has.
+    MissingModule(u64, Text),
+    /// The object of this number used a name of a module, which doesn't export it now.
+    MissingName(u64, Text, Text),
 }
 
 /// How the program ended. Lines are counted from 1, and words that are a line by themselves are line 1.

@@ -10,8 +10,8 @@ use crate::answer::{Effect, Halt};
 use crate::outside::{read_all, write_one};
 use base_io::{Ends, Files, Sink};
 use commands::Command;
-use simulation::law;
 use std::alloc::Global;
+use whole_program::law;
 
 /// Keeps what a line made: writes its file, or notes the end of its run.
 fn finish<F: Files>(
@@ -50,7 +50,7 @@ pub fn do_line<F: Files, K: Sink>(
     ensures file_fault { (n : Bytes) → IsErrOf result (Halt.FileFault n) → Rose (F.faults files.old) (F.faults files.new) }
     ensures write_fault { IsErrOf result Halt.WriteFault → Rose (K.faults out.old) (K.faults out.new) }
 {
-    // By it a program stands for the source of its object.
+    // By it a program stands for the sources of its objects.
     law();
     let names = names_read(alloc, command)?;
     let texts = read_all(alloc, files, names.as_slice())?;

@@ -1,5 +1,5 @@
 // What the program says of its answer: a status and one line.
-ghost use Rattle.std.specs.Prelude.{◌≡◌, ◌++◌, IfOk, OnOk};
+ghost use Rattle.std.specs.Prelude.{◌≡◌, ◌++◌, codes, IfOk, OnOk};
 ghost use Rattle.scheme_data.specs.Decimal.{decimal_text};
 ghost use Rattle.session.specs.Messages.{status_of, end_status, message_of, line_words, refusal_words};
 
@@ -79,14 +79,52 @@ fn fault_text(alloc: Global, number: u64, at: Place) -> Result<Text, OutOfMemory
     Ok(text)
 }
 
-fn refusal_text(alloc: Global, number: u64, refusal: Refusal) -> Result<Text, OutOfMemory>
-    ensures { IfOk result (λ text. text ≡ line_words number ++ refusal_words refusal) }
+// After the words come the number of an object and the name of a module that it wants.
+fn missing_text(
+    alloc: Global,
+    number: u64,
+    words: &[u8],
+    object: u64,
+    module_name: &Text,
+) -> Result<Text, OutOfMemory>
+    ensures { IfOk result (λ text. text ≡ line_words number ++ (words.now ++ decimal_text object ++ codes " " ++ module_name.now)) }
+{
+    let mut text = line_text(alloc, number, words)?;
+    push_decimal(&mut text, object)?;
+    text.push(b' ')?;
+    text.extend(module_name.as_bytes())?;
+    Ok(text)
+}
+
+fn missing_name_text(
+    alloc: Global,
+    number: u64,
+    object: u64,
+    module_name: &Text,
+    name: &Text,
+) -> Result<Text, OutOfMemory>
+    ensures { IfOk result (λ text. text ≡ line_words number ++ refusal_words (Refusal.MissingName object module_name.now name.now)) }
+{
+    let mut text = missing_text(alloc, number, b": refusal 18 ", object, module_name)?;
+    text.push(b' ')?;
+    text.extend(name.as_bytes())?;
+    Ok(text)
+}
+
+fn refusal_text(alloc: Global, number: u64, refusal: &Refusal) -> Result<Text, OutOfMemory>
+    ensures { IfOk result (λ text. text ≡ line_words number ++ refusal_words refusal.now) }
 {
     match refusal {
         Refusal::NotBuilt => line_text(alloc, number, b": refusal 0"),
-        Refusal::Syntax(at) => fault_text(alloc, number, at),
+        Refusal::Syntax(at) => fault_text(alloc, number, *at),
         Refusal::Limit(LimitKind::Bytes) => line_text(alloc, number, b": refusal 2 Bytes"),
         Refusal::Limit(LimitKind::Depth) => line_text(alloc, number, b": refusal 2 Depth"),
+        Refusal::MissingModule(object, module_name) => {
+            missing_text(alloc, number, b": refusal 17 ", *object, module_name)
+        }
+        Refusal::MissingName(object, module_name, name) => {
+            missing_name_text(alloc, number, *object, module_name, name)
+        }
     }
 }
 
@@ -103,7 +141,7 @@ pub fn message(alloc: Global, answer: &Answer) -> Result<Text, OutOfMemory>
         Answer::ReadFault => Text::from_bytes(alloc, b"read fault"),
         Answer::InputLong => Text::from_bytes(alloc, b"input too long"),
         Answer::WriteFault => Text::from_bytes(alloc, b"write fault"),
-        Answer::Refused(number, refusal) => refusal_text(alloc, *number, *refusal),
+        Answer::Refused(number, refusal) => refusal_text(alloc, *number, refusal),
         Answer::Memory => Text::from_bytes(alloc, b"memory"),
     }
 }
