@@ -1,12 +1,8 @@
 // Interfaces: made of a source by itself, and given to the compilation of another one.
 use crate::row::{all_pass, with_turns};
-use crate::world::World;
-use scheme_data::{OutOfMemory, Text};
-use session::{message, status};
+use crate::world::{DO, File, world_of};
+use scheme_data::OutOfMemory;
 use std::alloc::Global;
-
-/// A file and what it holds.
-type File<'a> = (&'a [u8], &'a [u8]);
 
 /// A script over some files, what it tells, and a file that is there after it or isn't.
 #[derive(Drop)]
@@ -47,30 +43,10 @@ fn stopped<'a>(
     }
 }
 
-fn world_of(alloc: Global, files: &[File], script: &[u8]) -> Result<World, OutOfMemory> {
-    let mut world = World::new(alloc, b"", script, 0)?;
-    for (name, content) in files {
-        let name = Text::from_bytes(alloc, name)?;
-        world.files.place(name, Text::from_bytes(alloc, content)?)?;
-    }
-    Ok(world)
-}
-
-fn has_file(world: &World, name: &[u8]) -> Result<bool, OutOfMemory> {
-    let name = Text::from_bytes(world.alloc, name)?;
-    Ok(world.files.content(&name).is_some())
-}
-
 fn goes(alloc: Global, work: &Work) -> Result<bool, OutOfMemory> {
     let mut world = world_of(alloc, work.files, work.script)?;
-    let answer = world.does(&[b"do".as_slice(), b"s".as_slice()])?;
-    let told = message(alloc, &answer)?;
-    Ok(
-        status(&answer) == work.status
-            && told.as_bytes() == work.message
-            && world.out.bytes().is_empty()
-            && has_file(&world, work.name)? == work.is_there,
-    )
+    let told = world.tells(DO, work.status, work.message, b"")?;
+    Ok(told && world.has(work.name)? == work.is_there)
 }
 
 fn all_go(alloc: Global, works: &[Work]) -> Result<bool, OutOfMemory> {
@@ -103,8 +79,7 @@ const FILES: &[File<'static>] = &[
 /// Whether an `iface` line makes this interface of a source.
 fn makes(alloc: Global, source: &[u8], interface: &[u8]) -> Result<bool, OutOfMemory> {
     let mut world = world_of(alloc, &[(b"a.scm", source)], b"iface a.scm a.ifc\n")?;
-    let answer = world.does(&[b"do".as_slice(), b"s".as_slice()])?;
-    Ok(status(&answer) == 0 && world.holds(b"a.ifc", Some(interface))?)
+    Ok(world.tells(DO, 0, b"", b"")? && world.holds(b"a.ifc", Some(interface))?)
 }
 
 #[test]
@@ -246,21 +221,26 @@ const LINK_OF_A: &[u8] = b"compile a.scm a.o\nlink p.c a.o\n";
 
 const LINK_OF_B: &[u8] = b"compile b.scm b.o a.ifc\nlink p.c b.o\n";
 
-// The objects stand, and no program is made of them.
+// The objects stand, and no program is made of them: one has no main function, and one has no module to import from.
 #[test]
 fn module_that_is_no_program_by_itself_is_not_linked(rt: HostRuntime) -> Result<(), OutOfMemory> {
     let alloc = rt.alloc();
-    let refused = b"line 2: refusal 0";
-    for (script, object) in [
-        (LINK_OF_A, b"a.o".as_slice()),
-        (LINK_OF_B, b"b.o".as_slice()),
+    for (script, object, told) in [
+        (
+            LINK_OF_A,
+            b"a.o".as_slice(),
+            b"line 2: refusal 0".as_slice(),
+        ),
+        (
+            LINK_OF_B,
+            b"b.o".as_slice(),
+            b"line 2: refusal 17 1 a".as_slice(),
+        ),
     ] {
         let mut world = world_of(alloc, FILES, script)?;
-        let answer = world.does(&[b"do".as_slice(), b"s".as_slice()])?;
-        assert_eq!(rt; status(&answer), 247);
-        assert_eq!(rt; message(alloc, &answer)?.as_bytes(), refused.as_slice());
-        assert!(rt; has_file(&world, object)?);
-        assert!(rt; !has_file(&world, b"p.c")?);
+        assert!(rt; world.tells(DO, 247, told, b"")?);
+        assert!(rt; world.has(object)?);
+        assert!(rt; !world.has(b"p.c")?);
     }
     Ok(())
 }

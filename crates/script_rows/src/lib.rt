@@ -10,6 +10,8 @@ mod hello;
 #[cfg(test)]
 mod interfaces;
 #[cfg(test)]
+mod linking;
+#[cfg(test)]
 mod row;
 #[cfg(test)]
 mod rows;

@@ -1,7 +1,6 @@
 // A script over one source, and what is seen of it.
-use crate::world::{SCRIPT, World};
+use crate::world::{DO, SCRIPT, World};
 use scheme_data::OutOfMemory;
-use session::{message, status};
 use std::alloc::Global;
 
 /// A file and what it holds; none where it isn't there.
@@ -29,14 +28,7 @@ fn all_hold(world: &World, files: &[Holds]) -> Result<bool, OutOfMemory> {
 
 pub(crate) fn passes(alloc: Global, row: &Row) -> Result<bool, OutOfMemory> {
     let mut world = World::new(alloc, row.source, row.script, 0)?;
-    let answer = world.does(&[b"do".as_slice(), b"s".as_slice()])?;
-    let told = message(alloc, &answer)?;
-    Ok(
-        status(&answer) == row.status
-            && world.out.bytes() == row.output
-            && told.as_bytes() == row.message
-            && all_hold(&world, row.files)?,
-    )
+    Ok(world.tells(DO, row.status, row.message, row.output)? && all_hold(&world, row.files)?)
 }
 
 /// A source whose program is run with one turn.
@@ -72,12 +64,5 @@ pub(crate) fn all_pass(alloc: Global, rows: &[Row]) -> Result<bool, OutOfMemory>
 /// Whether a source is refused with these words, and has no object.
 pub(crate) fn is_refused(alloc: Global, source: &[u8], words: &[u8]) -> Result<bool, OutOfMemory> {
     let mut world = World::new(alloc, source, SCRIPT, 0)?;
-    let answer = world.does(&[b"do".as_slice(), b"s".as_slice()])?;
-    let told = message(alloc, &answer)?;
-    Ok(
-        status(&answer) == 247
-            && told.as_bytes() == words
-            && world.out.bytes().is_empty()
-            && world.holds(b"h.o", None)?,
-    )
+    Ok(world.tells(DO, 247, words, b"")? && !world.has(b"h.o")?)
 }

@@ -1,8 +1,11 @@
 // A world in memory: files, an empty input, and room for some output.
 use base_io::{MemFiles, MemSink, MemSource};
 use scheme_data::{CallList, OutOfMemory, Text, TextList};
-use session::{Answer, bglc};
+use session::{Answer, bglc, message, status};
 use std::alloc::Global;
+
+/// A file and what it holds.
+pub(crate) type File<'a> = (&'a [u8], &'a [u8]);
 
 /// The three lines of a whole script.
 pub(crate) const SCRIPT: &[u8] = b"compile h.scm h.o\nlink h.c h.o\nrun h.c 1\n";
@@ -19,6 +22,9 @@ pub(crate) const FIVE_TURNS: &[u8] = b"compile h.scm h.o\nlink h.c h.o\nrun h.c 
 pub(crate) const TEN_TURNS: &[u8] = b"compile h.scm h.o\nlink h.c h.o\nrun h.c 10\n";
 
 pub(crate) const MANY_TURNS: &[u8] = b"compile h.scm h.o\nlink h.c h.o\nrun h.c 100001\n";
+
+/// The words that do the script `s`.
+pub(crate) const DO: &[&[u8]] = &[b"do", b"s"];
 
 /// The objects that a script is handed.
 #[derive(Drop)]
@@ -77,6 +83,25 @@ impl World {
         ))
     }
 
+    /// Whether what these words ask for ends with this status and message, and all that was written until then is this.
+    pub(crate) fn tells(
+        &mut self,
+        words: &[&[u8]],
+        ends: u8,
+        told: &[u8],
+        output: &[u8],
+    ) -> Result<bool, OutOfMemory> {
+        let answer = self.does(words)?;
+        let line = message(self.alloc, &answer)?;
+        Ok(status(&answer) == ends && line.as_bytes() == told && self.out.bytes() == output)
+    }
+
+    /// Whether a file is there.
+    pub(crate) fn has(&self, name: &[u8]) -> Result<bool, OutOfMemory> {
+        let name = Text::from_bytes(self.alloc, name)?;
+        Ok(self.files.content(&name).is_some())
+    }
+
     /// Whether a file holds this content, or isn't there.
     pub(crate) fn holds(&self, name: &[u8], content: Option<&[u8]>) -> Result<bool, OutOfMemory> {
         let name = Text::from_bytes(self.alloc, name)?;
@@ -86,6 +111,16 @@ impl World {
             _ => false,
         })
     }
+}
+
+/// A world with these files and the script `s`.
+pub(crate) fn world_of(alloc: Global, files: &[File], script: &[u8]) -> Result<World, OutOfMemory> {
+    let mut world = World::new(alloc, b"", script, 0)?;
+    for (name, content) in files {
+        let name = Text::from_bytes(alloc, name)?;
+        world.files.place(name, Text::from_bytes(alloc, content)?)?;
+    }
+    Ok(world)
 }
 
 /// The source whose main function has this body.
