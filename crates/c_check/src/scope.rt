@@ -9,9 +9,9 @@ use crate::declared::{Declared, Shape};
 use crate::role::Role;
 use crate::types::{is_error, is_the_type, number_fits, same_type};
 use crate::variables::Variables;
+use built_table::Primitive;
 use c_tree::{CArg, CAtom, CCall, CExpr, CStmt, CTy, Callee, Op};
 use name_table::NameTable;
-use prim_table::Primitive;
 
 /// What the statements of a function with a role may name.
 #[derive(Drop)]

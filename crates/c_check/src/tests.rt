@@ -1,8 +1,8 @@
 use crate::{CheckErr, check};
+use built_table::Primitive;
 use c_tree::{
     CArg, CAtom, CCall, CExpr, CFun, CItem, CProgram, CTy, CVar, Callee, Layout, Op, Piece, lay_out,
 };
-use prim_table::Primitive;
 use scheme_data::{List, OutOfMemory, Text};
 use std::alloc::Global;
 

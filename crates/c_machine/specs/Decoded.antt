@@ -2,7 +2,7 @@
 use Rattle.std.specs.Prelude.{◌≡◌, ℕ, suc, ◌+◌, List, [], ◌∷◌, ◌++◌, map, codes, length, Option, Some, None, slice_get, Bool, true}
 use Rattle.std.specs.List.{list_all}
 use Rattle.scheme_data.specs.Fixnum.{long_word}
-use Rattle.prim_table.specs.declared.primitives.Primitive.TheVariants.{Add, Less, Display, Newline}
+use Rattle.built_table.specs.declared.primitives.Primitive.TheVariants.{Add, Less, Display, Newline}
 use Rattle.c_tree.specs.declared.op.Op.{Op}
 use Rattle.c_tree.specs.declared.op.Op.TheVariants.{BoxLong, BoxBool, UnboxLong, Truth, Raise, Args, Status, Primitive as Prim_op}
 use Rattle.c_tree.specs.declared.tree.CAtom.{CAtom}

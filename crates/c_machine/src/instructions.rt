@@ -5,9 +5,9 @@ ghost use Rattle.c_machine.specs.Decoded.{operand_of, operand_in, operand_at, co
 use crate::names::place;
 use crate::program::{Action, Dest, Instr, Operand};
 use crate::words::{bits_of, byte};
+use built_table::Primitive;
 use c_tree::{CArg, CAtom, CCall, CExpr, Callee, Op};
 use name_table::NameTable;
-use prim_table::Primitive;
 use scheme_data::{List, OutOfMemory, Text};
 use std::alloc::Global;
 

@@ -11,6 +11,8 @@ use crate::program::{Action, Operand};
 use crate::stepping::{Acc, Flow};
 use crate::words::{bits_of, boxed, boxed_truth, is_less, number_of, status, truth, unboxed};
 use base_io::{End, Sink};
+use built_table::{Primitive, Ty};
+use prim_table::ErrCode;
 use scheme_data::{Text, is_in_range, is_long};
 use std::alloc::Global;
 
@@ -47,7 +49,7 @@ fn sum(alloc: Global, a: u64, b: u64, acc: &mut Acc) -> Flow
 {
     let n = number_of(a) + number_of(b);
     if !is_in_range(n) {
-        return raise(alloc, 3, b"+", acc);
+        return raise(alloc, ErrCode::Range.number(), Primitive::Add.name(), acc);
     }
     acc.value = bits_of(n);
     Flow::Going
@@ -58,7 +60,7 @@ fn unbox(alloc: Global, w: u64, acc: &mut Acc) -> Flow
     ensures { Yields (unboxed_of w) result acc.new.value acc.new.end }
 {
     if !is_long(w) {
-        return raise(alloc, 1, b"long", acc);
+        return raise(alloc, ErrCode::WrongType.number(), Ty::Long.name(), acc);
     }
     acc.value = unboxed(w);
     Flow::Going

@@ -1,10 +1,10 @@
 use crate::Machine;
 use base_io::{End, Failed, MemSink, RunErr, Sink};
+use built_table::Primitive;
 use c_check::check;
 use c_tree::{
     CArg, CAtom, CCall, CExpr, CFun, CItem, CProgram, CTy, CVar, Callee, Layout, Op, Piece, lay_out,
 };
-use prim_table::Primitive;
 use scheme_data::{CallList, List, OutOfMemory, Text, TextList};
 use std::alloc::Global;
 

@@ -2,8 +2,8 @@
 use Rattle.std.specs.Prelude.{ℕ, List, [], ◌∷◌, ◌++◌, codes, nat_lt, ℤ, pos, negsuc, ◌+ℤ◌, int_lt, Bool, true, false, nat_eq, if◌then◌else◌}
 use Rattle.scheme_data.specs.Fixnum.{is_fixnum}
 use Rattle.base_io.specs.declared.end.FaultKind.TheVariants.{Tag}
-use Rattle.prim_table.specs.declared.primitives.Primitive.{Primitive}
-use Rattle.prim_table.specs.declared.primitives.Primitive.TheVariants.{Add, Less, Display, Newline}
+use Rattle.built_table.specs.declared.primitives.Primitive.{Primitive}
+use Rattle.built_table.specs.declared.primitives.Primitive.TheVariants.{Add, Less, Display, Newline}
 use Rattle.c_tree.specs.declared.op.Op.{Op}
 use Rattle.c_tree.specs.declared.op.Op.TheVariants.{BoxLong, BoxBool, UnboxLong, Truth, Raise, Args, Status, Primitive as Does}
 use Rattle.c_meaning.specs.Word.{Word, Fixnum, False, True, Nil, Unspec, Eof, printed}

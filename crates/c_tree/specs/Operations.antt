@@ -1,7 +1,7 @@
 -- The operations' names in a C text.
 use Rattle.std.specs.Prelude.{ℕ, List, codes, nat_eq, if◌then◌else◌, Option, Some, None}
 use Rattle.std.specs.Cmp.Lexicographic.{pointwise}
-use Rattle.prim_table.specs.declared.primitives.Primitive.TheVariants.{Add, Less, Display, Newline}
+use Rattle.built_table.specs.declared.primitives.Primitive.TheVariants.{Add, Less, Display, Newline}
 use Rattle.c_tree.specs.declared.op.Op.{Op}
 use Rattle.c_tree.specs.declared.op.Op.TheVariants.{BoxLong, BoxBool, UnboxLong, Truth, Raise, Args, Status, Primitive as Does}
 

@@ -2,7 +2,7 @@ ghost use Rattle.std.specs.Prelude.{◌≡◌, nat_eq};
 ghost use Rattle.std.specs.Cmp.Lexicographic.{pointwise};
 ghost use Rattle.c_tree.specs.Operations.{op_text, op_named};
 
-use prim_table::Primitive;
+use built_table::Primitive;
 
 /// An operation of the runtime.
 #[derive(Clone, Copy, Debug, PartialEq, Eq)]

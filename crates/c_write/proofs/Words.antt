@@ -8,7 +8,7 @@ use Rattle.std.proofs.lemmas.Bool.Decides.{nat_tests}
 use Rattle.scheme_data.specs.Decimal.{number_text}
 use Rattle.scheme_data.specs.Fixnum.{IsFixnum}
 use Rattle.scheme_data.proofs.NumberTexts.{IsNumeralText, IsSignedText, number_text-IsSignedText, mag_fixnum}
-use Rattle.prim_table.specs.declared.primitives.Primitive.TheVariants.{Add, Less, Display, Newline}
+use Rattle.built_table.specs.declared.primitives.Primitive.TheVariants.{Add, Less, Display, Newline}
 use Rattle.c_tree.specs.declared.op.Op.{Op}
 use Rattle.c_tree.specs.declared.op.Op.TheVariants.{BoxLong, BoxBool, UnboxLong, Truth, Raise, Args, Status, Primitive as Does}
 use Rattle.c_tree.specs.declared.names.NameState.{NameState}

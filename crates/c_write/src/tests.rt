@@ -7,11 +7,11 @@ ghost use Rattle.c_tree.specs.Spelling.{NamedCall, NamedCode, NamedExpr, NamedIt
 
 use crate::put::put_indent;
 use crate::{write_c, write_unit};
+use built_table::Primitive;
 use c_tree::{
     CArg, CAtom, CCall, CExpr, CFun, CItem, CProgram, CTy, CUnit, CVar, Callee, Layout, Op, Piece,
     function_name_text, label_name_text, lay_out, local_name_text,
 };
-use prim_table::Primitive;
 use scheme_data::{List, OutOfMemory, Text};
 use std::alloc::Global;
 

@@ -1,8 +1,8 @@
 -- The value of each node goes to a place as a word, and a test chooses between two blocks.
 use Rattle.std.proofs.Common.{◌≡◌, ℕ, ◌≤◌, List, [], ◌∷◌, Some, None, ap, ◌∙◌, subst, arith}
-use Rattle.prim_table.specs.declared.primitives.Ty.TheVariants as ty
-use Rattle.prim_table.specs.declared.primitives.Primitive.{Primitive as Builtin}
-use Rattle.prim_table.specs.Table.{params_of, result_of}
+use Rattle.built_table.specs.declared.primitives.Ty.TheVariants as ty
+use Rattle.built_table.specs.declared.primitives.Primitive.{Primitive as Builtin}
+use Rattle.built_table.specs.Table.{params_of, result_of}
 use Rattle.core_tree.specs.declared.tree.Const.{Const}
 use Rattle.core_tree.specs.declared.tree.VarId.{VarId}
 use Rattle.core_tree.specs.declared.tree.GlobalRef.{GlobalRef}

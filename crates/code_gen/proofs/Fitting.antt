@@ -5,11 +5,11 @@ use Rattle.std.proofs.lemmas.Bool.{and_parts}
 use Rattle.std.proofs.lemmas.List.{map-append, append-nil, drop_all}
 use Rattle.std.specs.Prelude.{true, pos}
 use Rattle.std.specs.List.{list_all}
-use Rattle.prim_table.specs.declared.primitives.Ty.{Ty}
-use Rattle.prim_table.specs.declared.primitives.Ty.TheVariants as ty
-use Rattle.prim_table.specs.declared.primitives.Primitive.{Primitive as Builtin}
-use Rattle.prim_table.specs.declared.primitives.Primitive.TheVariants as builtin
-use Rattle.prim_table.specs.Table.{params_of, is_parameter_type}
+use Rattle.built_table.specs.declared.primitives.Ty.{Ty}
+use Rattle.built_table.specs.declared.primitives.Ty.TheVariants as ty
+use Rattle.built_table.specs.declared.primitives.Primitive.{Primitive as Builtin}
+use Rattle.built_table.specs.declared.primitives.Primitive.TheVariants as builtin
+use Rattle.built_table.specs.Table.{params_of, is_parameter_type}
 use Rattle.core_tree.specs.declared.tree.Node.{Node}
 use Rattle.c_tree.specs.declared.op.Op.{Op}
 use Rattle.c_tree.specs.declared.tree.CAtom.TheVariants as atom

@@ -3,10 +3,10 @@ use Rattle.std.proofs.Common.{◌≡◌, ℕ, zero, suc, ◌+◌, ◌<◌, ◌�
 use Rattle.std.specs.Prelude.{IsTrue, Bool, true, false, nat_eq}
 use Rattle.std.proofs.lemmas.Bool.{eq-eqb, eqb-true}
 use Rattle.std.specs.List.{list_any}
-use Rattle.prim_table.specs.declared.primitives.Ty.{Ty}
-use Rattle.prim_table.specs.declared.primitives.Ty.TheVariants as ty
-use Rattle.prim_table.specs.declared.primitives.Primitive.{Primitive as Builtin}
-use Rattle.prim_table.specs.Table.{params_of}
+use Rattle.built_table.specs.declared.primitives.Ty.{Ty}
+use Rattle.built_table.specs.declared.primitives.Ty.TheVariants as ty
+use Rattle.built_table.specs.declared.primitives.Primitive.{Primitive as Builtin}
+use Rattle.built_table.specs.Table.{params_of}
 use Rattle.core_tree.specs.declared.tree.Const.{Const}
 use Rattle.core_tree.specs.declared.tree.VarId.{VarId}
 use Rattle.core_tree.specs.declared.tree.GlobalRef.{GlobalRef}

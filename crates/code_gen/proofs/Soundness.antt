@@ -2,11 +2,11 @@
 use Rattle.std.proofs.Common.{◌≡◌, ℕ, zero, suc, List, [], ◌∷◌, ◌++◌, map, replicate, Bool, true, false, Option, Some, None, refl, sym, ap, ◌∙◌, subst, arith}
 use Rattle.std.specs.Prelude.{IsTrue, pos, ◌&&◌}
 use Rattle.std.proofs.lemmas.Bool.{and_from, eqb-true}
-use Rattle.prim_table.specs.declared.primitives.Ty.{Ty}
-use Rattle.prim_table.specs.declared.primitives.Ty.TheVariants as ty
-use Rattle.prim_table.specs.declared.primitives.Primitive.{Primitive as Builtin}
-use Rattle.prim_table.specs.declared.primitives.Primitive.TheVariants as builtin
-use Rattle.prim_table.specs.Table.{params_of, result_of}
+use Rattle.built_table.specs.declared.primitives.Ty.{Ty}
+use Rattle.built_table.specs.declared.primitives.Ty.TheVariants as ty
+use Rattle.built_table.specs.declared.primitives.Primitive.{Primitive as Builtin}
+use Rattle.built_table.specs.declared.primitives.Primitive.TheVariants as builtin
+use Rattle.built_table.specs.Table.{params_of, result_of}
 use Rattle.core_tree.specs.declared.tree.Const.{Const}
 use Rattle.core_tree.specs.declared.tree.Const.TheVariants as const
 use Rattle.core_tree.specs.declared.tree.VarId.{VarId}

@@ -2,7 +2,7 @@
 use Rattle.std.proofs.Common.{◌≡◌, ℕ, suc, ◌+◌, ◌<◌, ◌≤◌, ◌^◌, List, [], ◌∷◌, ◌++◌, length, map, drop, get_or, refl, sym, ap, ◌∙◌, subst, arith, append_assoc, add-one}
 use Rattle.std.proofs.Math.Seq.{drop-cons}
 use Rattle.std.proofs.lemmas.List.{map-append, length-map, append-nil, drop_all}
-use Rattle.prim_table.specs.declared.primitives.Ty.{Ty}
+use Rattle.built_table.specs.declared.primitives.Ty.{Ty}
 use Rattle.core_tree.specs.declared.tree.Node.{Node}
 use Rattle.core_tree.specs.Tree.{Tree, Trees, none, more, trees, tree}
 use Rattle.core_tree.specs.WellFormed.{AsMany}

@@ -2,8 +2,8 @@
 use Rattle.std.proofs.Common.{◌≡◌, ℕ, zero, suc, ◌+◌, ◌<◌, ◌≤◌, List, [], ◌∷◌, ◌++◌, length, map, take, drop, get_or, Some, None, refl, sym, ap, ◌∙◌, subst, arith, add-one}
 use Rattle.std.proofs.Math.Seq.{drop-cons}
 use Rattle.std.proofs.lemmas.List.{drop_all, take_more}
-use Rattle.prim_table.specs.declared.primitives.Primitive.{Primitive as Builtin}
-use Rattle.prim_table.specs.Table.{params_of}
+use Rattle.built_table.specs.declared.primitives.Primitive.{Primitive as Builtin}
+use Rattle.built_table.specs.Table.{params_of}
 use Rattle.core_tree.specs.declared.tree.Const.{Const}
 use Rattle.core_tree.specs.declared.tree.VarId.{VarId}
 use Rattle.core_tree.specs.declared.tree.GlobalRef.{GlobalRef}

@@ -1,6 +1,6 @@
 -- The modules of the tests, and where their expressions may stand.
 use Rattle.std.specs.Prelude.{◌≡◌, ◌≤◌, ℕ, List, [], ◌∷◌, length, codes, Some}
-use Rattle.prim_table.specs.declared.primitives.Ty.TheVariants.{Obj}
+use Rattle.built_table.specs.declared.primitives.Ty.TheVariants.{Obj}
 use Rattle.iface_text.specs.declared.interface.Row.{Row}
 use Rattle.iface_text.specs.declared.interface.RowKind.TheVariants.{Fun}
 use Rattle.core_tree.specs.declared.tree.GlobalRef.TheVariants.{Used}

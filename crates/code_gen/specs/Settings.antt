@@ -7,7 +7,7 @@ use Rattle.c_tree.specs.declared.tree.CVar.{CVar}
 use Rattle.c_tree.specs.Code.{Code}
 use Rattle.plan_rules.specs.declared.rep.Rep.{Rep}
 use Rattle.plan_rules.specs.Representation.{Scope}
-use Rattle.prim_table.specs.declared.primitives.Ty.{Ty}
+use Rattle.built_table.specs.declared.primitives.Ty.{Ty}
 use Rattle.plan_rules.specs.Translation.{Name, Statements, Tr, TrUnused, TrAllUnused, TrLast, TrArguments}
 use Rattle.code_gen.specs.Scopes.{scope_with}
 use Rattle.code_gen.specs.declared.context.Context.{Context}

@@ -1,6 +1,6 @@
 // Calls, whose arguments are evaluated from left to right and then made to fit.
 ghost use Rattle.std.specs.Prelude.{◌≡◌, map, IfOk};
-ghost use Rattle.prim_table.specs.Table.{params_of};
+ghost use Rattle.built_table.specs.Table.{params_of};
 ghost use Rattle.core_tree.specs.Tree.{tree, trees, callee_of};
 ghost use Rattle.core_tree.specs.WellFormed.{AsMany, IsFound};
 ghost use Rattle.code_gen.specs.Settings.{setting, AreNodes};
@@ -11,9 +11,9 @@ use crate::context::Context;
 use crate::emitter::{Emitter, Held};
 use crate::nodes::value;
 use crate::parts::{local_args, object_types, param_types, raise_count, rep};
+use built_table::{Primitive, Ty};
 use c_tree::{CArg, CCall, Callee, Op, Piece};
 use core_tree::{GlobalRef, Node};
-use prim_table::{Primitive, Ty};
 use scheme_data::{List, OutOfMemory};
 
 /// The call of a primitive.

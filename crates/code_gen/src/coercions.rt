@@ -1,15 +1,15 @@
 // Arguments that were evaluated are made to fit the types of parameters.
 ghost use Rattle.std.specs.Prelude.{◌≡◌, ◌∷◌, [], length, IfOk, IsTrue};
-ghost use Rattle.prim_table.specs.Table.{is_parameter_type};
+ghost use Rattle.built_table.specs.Table.{is_parameter_type};
 ghost use Rattle.c_tree.specs.Names.{local_name};
 ghost use Rattle.plan_rules.specs.Representation.{step};
 ghost use Rattle.code_gen.specs.Emission.{step_of, AreParameters, AreBelow, held_names, IsRefused, IsFitted, AreFitted};
 
 use crate::emitter::{Emitter, Held};
 use crate::parts::{made_from, raise_type, rep};
+use built_table::Ty;
 use c_tree::{CAtom, CExpr, Op, Piece};
 use plan_rules::Rep;
-use prim_table::Ty;
 use scheme_data::{List, OutOfMemory};
 
 /// What makes a value fit a type: nothing, an operation, or the raising of an error since no value of its representation fits.

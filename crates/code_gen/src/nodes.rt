@@ -10,10 +10,10 @@ use crate::coercions::{Coercion, coercion_to};
 use crate::context::Context;
 use crate::emitter::{Emitter, Held, Place};
 use crate::parts::{constant, constant_rep, local_expr, made_from, rep, result_type, word};
+use built_table::Ty;
 use c_tree::{CCall, CExpr};
 use core_tree::Node;
 use plan_rules::Rep;
-use prim_table::Ty;
 use scheme_data::OutOfMemory;
 
 /// The node's value in a new local. That of an `if` is there before its blocks.

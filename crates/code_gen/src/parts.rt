@@ -1,7 +1,8 @@
 // What a representation, a primitive and a value are in C.
-ghost use Rattle.std.specs.Prelude.{◌≡◌, ◌∷◌, [], ◌++◌, IfOk, map, Some};
-ghost use Rattle.prim_table.specs.declared.primitives.Ty.TheVariants.{Obj};
-ghost use Rattle.prim_table.specs.Table.{params_of, result_of, type_name};
+ghost use Rattle.std.specs.Prelude.{◌≡◌, ◌∷◌, [], ◌++◌, pos, IfOk, map, Some};
+ghost use Rattle.prim_table.specs.Errors.{number_of};
+ghost use Rattle.built_table.specs.declared.primitives.Ty.TheVariants.{Obj};
+ghost use Rattle.built_table.specs.Table.{params_of, result_of};
 ghost use Rattle.c_tree.specs.Names.{local_name};
 ghost use Rattle.plan_rules.specs.declared.rep.Rep.TheVariants.{Obj as Word};
 ghost use Rattle.c_tree.specs.declared.op.Op.TheVariants.{Raise};
@@ -10,10 +11,11 @@ ghost use Rattle.c_tree.specs.declared.tree.CArg.TheVariants.{Atom, Str};
 ghost use Rattle.plan_rules.specs.Representation.{truth_atom, rep_of, c_type_of, own_rep, constant_rep, constant_expr, condition, operation, raise_count, raise_type, local};
 
 use crate::emitter::Held;
+use built_table::{Primitive, Ty};
 use c_tree::{CArg, CAtom, CCall, CExpr, CTy, Callee, Op, local_name_text};
 use core_tree::{Const, Node};
 use plan_rules::Rep;
-use prim_table::{Primitive, Ty};
+use prim_table::ErrCode;
 use scheme_data::{List, OutOfMemory, Text, push_number};
 use std::alloc::Global;
 
@@ -76,11 +78,11 @@ pub fn local_expr(alloc: Global, x: u32) -> Result<CExpr, OutOfMemory>
 }
 
 // The call that raises an error with a text.
-fn raise(alloc: Global, error: i64, text: Text) -> Result<CCall, OutOfMemory>
-    ensures { IfOk result (λ c. c ≡ operation Raise (Atom (Int error) ∷ Str text ∷ [])) }
+fn raise(alloc: Global, error: ErrCode, text: Text) -> Result<CCall, OutOfMemory>
+    ensures { IfOk result (λ c. c ≡ operation Raise (Atom (Int (pos (number_of error))) ∷ Str text ∷ [])) }
 {
     let mut args = List::new(alloc);
-    args.push(CArg::Atom(CAtom::Int(error)))?;
+    args.push(CArg::Atom(CAtom::Int(error.number() as i64)))?;
     args.push(CArg::Str(text))?;
     Ok(CCall {
         callee: Callee::Op(Op::Raise),
@@ -95,25 +97,15 @@ pub fn raise_count(alloc: Global, want: usize) -> Result<CCall, OutOfMemory>
     let number = i64::try_from(want).map_err(|_| OutOfMemory)?;
     let mut text = Text::new(alloc);
     push_number(&mut text, number)?;
-    raise(alloc, 2, text)
-}
-
-fn type_name(ty: Ty) -> &'static [u8]
-    ensures { result.now ≡ type_name ty }
-{
-    match ty {
-        Ty::Obj => b"obj",
-        Ty::Long => b"long",
-        Ty::Bool => b"bool",
-    }
+    raise(alloc, ErrCode::ArgumentCount, text)
 }
 
 /// The call that raises error 1, where a type is wanted.
 pub fn raise_type(alloc: Global, ty: Ty) -> Result<CCall, OutOfMemory>
     ensures { IfOk result (λ c. c ≡ raise_type ty) }
 {
-    let text = Text::from_bytes(alloc, type_name(ty))?;
-    raise(alloc, 1, text)
+    let text = Text::from_bytes(alloc, ty.name())?;
+    raise(alloc, ErrCode::WrongType, text)
 }
 
 pub fn local_arg(alloc: Global, x: u32) -> Result<CArg, OutOfMemory>

@@ -8,12 +8,12 @@ ghost use Rattle.code_gen.specs.Settings.{Setting, IsBodyIn};
 ghost use Rattle.code_gen.specs.Samples.{Stands, AllStand, IsSampleBody, IsSampleForm, sample_imports, row_named, sample_uses, sample};
 
 use crate::generate_unit;
+use built_table::{Primitive, Ty};
 use c_tree::{
     CArg, CAtom, CCall, CExpr, CFun, CItem, CStmt, CTy, CUnit, Callee, PieceRef, op_name, pieces_in,
 };
 use core_tree::{Const, GlobalRef, ImportItem, Lambda, Module, Node, Top, Use, VarId};
 use iface_text::{Row, RowKind};
-use prim_table::{Primitive, Ty};
 use scheme_data::{List, OutOfMemory, Text, push_number};
 use sqlite_items::{Boxed, Items};
 use std::alloc::Global;

@@ -1,8 +1,8 @@
 -- The plain tree of a module, of which every definition speaks.
 use Rattle.std.specs.Prelude.{ℕ, suc, List, [], ◌∷◌, map, find, slice_get, length, nat_eq, Bool, Option, Some, None}
 use Rattle.std.specs.Cmp.Lexicographic.{pointwise}
-use Rattle.prim_table.specs.declared.primitives.Primitive.{Primitive as Builtin}
-use Rattle.prim_table.specs.declared.primitives.Ty.{Ty}
+use Rattle.built_table.specs.declared.primitives.Primitive.{Primitive as Builtin}
+use Rattle.built_table.specs.declared.primitives.Ty.{Ty}
 use Rattle.iface_text.specs.declared.interface.Row.{Row}
 use Rattle.iface_text.specs.declared.interface.RowKind.{RowKind}
 use Rattle.iface_text.specs.declared.interface.RowKind.TheVariants.{Fun}

@@ -4,8 +4,8 @@ use Rattle.std.specs.List.{list_all, list_any}
 use Rattle.std.specs.Cmp.Lexicographic.{pointwise}
 use Rattle.scheme_data.specs.Fixnum.{IsFixnum}
 use Rattle.scheme_data.specs.Symbols.{IsName}
-use Rattle.prim_table.specs.declared.primitives.Ty.{Ty}
-use Rattle.prim_table.specs.Table.{params_of}
+use Rattle.built_table.specs.declared.primitives.Ty.{Ty}
+use Rattle.built_table.specs.Table.{params_of}
 use Rattle.name_table.specs.Names.{has_name}
 use Rattle.iface_text.specs.declared.interface.Row.{Row}
 use Rattle.iface_text.specs.Format.{IsUntyped, AreRows}

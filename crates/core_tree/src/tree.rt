@@ -1,5 +1,5 @@
+use built_table::Primitive;
 use iface_text::Row;
-use prim_table::Primitive;
 use scheme_data::{List, Text, TextList};
 use sqlite_items::{Boxed, Items};
 

@@ -1,9 +1,9 @@
 -- Types `obj`, counted and written.
 use Rattle.std.proofs.Common.{◌≡◌, ◌≢◌, ℕ, zero, suc, ◌+◌, ◌≤◌, List, [], ◌∷◌, ◌++◌, length, replicate, refl, ap, sym, ◌∙◌, arith, append_assoc, add-one, append-nil, Bool, true, false, nat_eq}
 use Rattle.std.specs.Prelude.{codes}
-use Rattle.prim_table.specs.declared.primitives.Ty.{Ty}
-use Rattle.prim_table.specs.declared.primitives.Ty.TheVariants.{Obj}
-use Rattle.prim_table.specs.Table.{type_name}
+use Rattle.built_table.specs.declared.primitives.Ty.{Ty}
+use Rattle.built_table.specs.declared.primitives.Ty.TheVariants.{Obj}
+use Rattle.built_table.specs.Table.{type_name}
 use Rattle.iface_text.specs.Format.{more_types, types_text}
 
 abbrev pub objects_text : ℕ → List ℕ

@@ -3,9 +3,9 @@ use Rattle.std.proofs.Common.{◌≡◌, ◌≢◌, ℕ, ◌+◌, List, [], ◌�
 use Rattle.std.proofs.lemmas.List.{length_push, same_from_push}
 use Rattle.std.specs.Prelude.{codes}
 use Rattle.scheme_data.specs.Symbols.{IsName}
-use Rattle.prim_table.specs.declared.primitives.Ty.{Ty}
-use Rattle.prim_table.specs.declared.primitives.Ty.TheVariants.{Obj, Long, Bool as Truth}
-use Rattle.prim_table.specs.Table.{type_name}
+use Rattle.built_table.specs.declared.primitives.Ty.{Ty}
+use Rattle.built_table.specs.declared.primitives.Ty.TheVariants.{Obj, Long, Bool as Truth}
+use Rattle.built_table.specs.Table.{type_name}
 use Rattle.iface_text.specs.declared.interface.Iface.{Iface}
 use Rattle.iface_text.specs.declared.interface.IfaceErr.{IfaceErr}
 use Rattle.iface_text.specs.declared.interface.IfaceErr.TheVariants.{NotInterface, Memory}

@@ -1,9 +1,9 @@
 -- The text of an interface, a format of this project's own: a line for each function that a module exports.
 use Rattle.std.specs.Prelude.{◌≡◌, ℕ, List, [], ◌∷◌, ◌++◌, map, codes, false}
 use Rattle.scheme_data.specs.Symbols.{IsName}
-use Rattle.prim_table.specs.declared.primitives.Ty.{Ty}
-use Rattle.prim_table.specs.declared.primitives.Ty.TheVariants.{Obj}
-use Rattle.prim_table.specs.Table.{type_name}
+use Rattle.built_table.specs.declared.primitives.Ty.{Ty}
+use Rattle.built_table.specs.declared.primitives.Ty.TheVariants.{Obj}
+use Rattle.built_table.specs.Table.{type_name}
 use Rattle.name_table.specs.Names.{has_name}
 use Rattle.iface_text.specs.declared.interface.Iface.{Iface}
 use Rattle.iface_text.specs.declared.interface.Row.{Row}

@@ -4,7 +4,7 @@ ghost use Rattle.iface_text.specs.Answers.{ReadsIface, GivesIface};
 
 use crate::reader::read;
 use crate::writer::write;
-use prim_table::Ty;
+use built_table::Ty;
 use scheme_data::{List, OutOfMemory, Place, Text};
 use std::alloc::Global;
 

@@ -2,12 +2,12 @@
 ghost use Rattle.std.specs.Prelude.{◌≡◌, ◌≢◌, ◌≤◌, ◌++◌, ◌∷◌, ℕ, length, IsTrue, ◌↔◌, IfOk, IfSome, IfNone, MatchOption, replicate};
 ghost use Rattle.std.specs.List.{prefix_len, list_all};
 ghost use Rattle.scheme_data.specs.Symbols.{is_symbol_byte, IsName};
-ghost use Rattle.prim_table.specs.declared.primitives.Ty.TheVariants.{Obj};
+ghost use Rattle.built_table.specs.declared.primitives.Ty.TheVariants.{Obj};
 ghost use Rattle.iface_text.specs.Format.{types_text, row_line};
 ghost use Rattle.iface_text.specs.Lines.{other_than, Lacks, module_line_name, row_of, untyped_row, NoRow, RowLine};
 
 use crate::interface::{Row, RowKind};
-use prim_table::Ty;
+use built_table::Ty;
 use scheme_data::{List, OutOfMemory, Text};
 use std::alloc::Global;
 

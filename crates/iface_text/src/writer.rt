@@ -1,10 +1,10 @@
 // An interface's text, written row by row.
 ghost use Rattle.std.specs.Prelude.{◌≡◌, ◌++◌, IfOk, OnOk};
-ghost use Rattle.prim_table.specs.Table.{type_name};
+ghost use Rattle.built_table.specs.Table.{type_name};
 ghost use Rattle.iface_text.specs.Format.{iface_tree, spelling, row_line, signature, types_text};
 
 use crate::interface::{Iface, Row, RowKind};
-use prim_table::Ty;
+use built_table::Ty;
 use scheme_data::{OutOfMemory, Text};
 use std::alloc::Global;
 

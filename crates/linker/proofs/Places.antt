@@ -17,7 +17,7 @@ use Rattle.object_text.specs.Format.{ObjectTree}
 use Rattle.linker.specs.Links.{same_type, same_types, names_of, exported_row, current_row, imports_in}
 use Rattle.linker.specs.Modules.{row_names, tree_of, trees}
 use Rattle.linker.specs.declared.indexed.Indexed.{Indexed}
-use Rattle.prim_table.specs.declared.primitives.Ty.{Ty}
+use Rattle.built_table.specs.declared.primitives.Ty.{Ty}
 use Rattle.linker.proofs.Visited.{are_below}
 
 pub position_step : {A : Type 0} (p : A → Bool) (x : A) (xs : List A) → position p (x ∷ xs) ≡ cond (p x) (Some 0) (option_map suc (position p xs))

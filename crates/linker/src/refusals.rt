@@ -8,9 +8,9 @@ ghost use Rattle.linker.specs.Modules.{trees};
 use crate::indexed::Indexed;
 use crate::linking::LinkErr;
 use crate::modules::{Modules, used_module, used_row};
+use built_table::Ty;
 use core_tree::{ImportItem, Use};
 use iface_text::RowKind;
-use prim_table::Ty;
 use scheme_data::OutOfMemory;
 use std::alloc::Global;
 

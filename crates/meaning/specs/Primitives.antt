@@ -2,11 +2,11 @@
 use Rattle.std.specs.Prelude.{ℕ, List, [], ◌∷◌, ◌++◌, length, codes, nat_eq, ℤ, ◌+ℤ◌, int_lt, Bool, true, false, if◌then◌else◌}
 use Rattle.scheme_data.specs.Decimal.{decimal_text, number_text}
 use Rattle.scheme_data.specs.Fixnum.{is_fixnum}
-use Rattle.prim_table.specs.declared.primitives.Ty.{Ty}
-use Rattle.prim_table.specs.declared.primitives.Ty.TheVariants.{Obj, Long, Bool as Truth}
-use Rattle.prim_table.specs.declared.primitives.Primitive.{Primitive}
-use Rattle.prim_table.specs.declared.primitives.Primitive.TheVariants.{Add, Less, Display, Newline}
-use Rattle.prim_table.specs.Table.{name_of, params_of, type_name}
+use Rattle.built_table.specs.declared.primitives.Ty.{Ty}
+use Rattle.built_table.specs.declared.primitives.Ty.TheVariants.{Obj, Long, Bool as Truth}
+use Rattle.built_table.specs.declared.primitives.Primitive.{Primitive}
+use Rattle.built_table.specs.declared.primitives.Primitive.TheVariants.{Add, Less, Display, Newline}
+use Rattle.built_table.specs.Table.{name_of, params_of, type_name}
 use Rattle.meaning.specs.Value.{Value, Fixnum, Boolean, Empty, Unspecified, State, Outcome, Gives, Raises, Spends}
 
 abbrev pub fits : Ty → Value → Bool

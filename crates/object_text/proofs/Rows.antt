@@ -6,8 +6,8 @@ use Rattle.std.proofs.lemmas.Bool.{and_parts, not-true}
 use Rattle.std.proofs.lemmas.Bool.Decides.{Decides-eqb}
 use Rattle.std.proofs.lemmas.List.{append_cancel_left, append_cancel_right}
 use Rattle.scheme_data.specs.Symbols.{is_symbol_byte, IsName}
-use Rattle.prim_table.specs.declared.primitives.Ty.{Ty}
-use Rattle.prim_table.specs.declared.primitives.Ty.TheVariants.{Obj}
+use Rattle.built_table.specs.declared.primitives.Ty.{Ty}
+use Rattle.built_table.specs.declared.primitives.Ty.TheVariants.{Obj}
 use Rattle.iface_text.specs.declared.interface.Row.{Row}
 use Rattle.iface_text.specs.declared.interface.RowKind.{RowKind}
 use Rattle.iface_text.specs.declared.interface.RowKind.TheVariants.{Fun}

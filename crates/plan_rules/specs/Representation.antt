@@ -1,9 +1,9 @@
 -- Which representation a value has, and the statements that change it (after storage use analysis, Serrano and Feeley, ICFP 1996).
 use Rattle.std.specs.Prelude.{ℕ, List, [], ◌∷◌, ℤ, pos, Bool, true, false, Option, Some, None, if◌then◌else◌}
 use Rattle.scheme_data.specs.Decimal.{decimal_text}
-use Rattle.prim_table.specs.declared.primitives.Ty.{Ty}
-use Rattle.prim_table.specs.declared.primitives.Ty.TheVariants as ty
-use Rattle.prim_table.specs.Table.{result_of, type_name}
+use Rattle.built_table.specs.declared.primitives.Ty.{Ty}
+use Rattle.built_table.specs.declared.primitives.Ty.TheVariants as ty
+use Rattle.built_table.specs.Table.{result_of, type_name}
 use Rattle.core_tree.specs.declared.tree.Const.{Const}
 use Rattle.core_tree.specs.declared.tree.Const.TheVariants as const
 use Rattle.core_tree.specs.declared.tree.VarId.{VarId}

@@ -1,9 +1,17 @@
-//! The primitives: their names, the types of their parameters and of their results.
+//! The table of primitives and extern C functions: names, types of parameters, types of results.
 #![tactic(auto)]
 
+mod errors;
 mod primitives;
+mod rows;
+mod search;
+mod types;
 
-pub use primitives::{Primitive, Ty, prim_by_name};
+pub use errors::ErrCode;
+pub use primitives::Primitive;
+pub use rows::{PrimRow, prim_row};
+pub use search::{extern_by_name, prim_by_name};
+pub use types::Ty;
 
 #[cfg(test)]
 mod tests;

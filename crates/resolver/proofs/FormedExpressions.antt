@@ -5,9 +5,9 @@ use Rattle.std.proofs.lemmas.Bool.{or_right}
 use Rattle.std.proofs.lemmas.Bool.Decides.{nat_tests}
 use Rattle.std.proofs.lemmas.List.Quantifiers.{position-Some}
 use Rattle.scheme_data.specs.Data.{Plain, Number, Character, Truth, Unspecified, String, Symbol, Listed, Dotted, Vector, Plains, none, more, IsProper, AreProper}
-use Rattle.prim_table.specs.declared.primitives.Primitive.{Primitive as Builtin}
-use Rattle.prim_table.specs.declared.primitives.Ty.{Ty}
-use Rattle.prim_table.specs.Table.{params_of, prim_named}
+use Rattle.built_table.specs.declared.primitives.Primitive.{Primitive as Builtin}
+use Rattle.built_table.specs.declared.primitives.Ty.{Ty}
+use Rattle.built_table.specs.Table.{params_of, prim_named}
 use Rattle.name_table.specs.Names.{place_of}
 use Rattle.module_head.specs.Heads.{is_word, symbol_of}
 use Rattle.core_tree.specs.declared.tree.VarId.{VarId}

@@ -4,7 +4,7 @@ use Rattle.std.specs.List.{list_all}
 use Rattle.std.proofs.lemmas.Bool.{and_parts, and_from}
 use Rattle.std.proofs.lemmas.List.{length-replicate}
 use Rattle.scheme_data.specs.Symbols.{IsName}
-use Rattle.prim_table.specs.declared.primitives.Ty.TheVariants.{Obj}
+use Rattle.built_table.specs.declared.primitives.Ty.TheVariants.{Obj}
 use Rattle.name_table.specs.Names.{has_name}
 use Rattle.iface_text.specs.declared.interface.Row.{Row}
 use Rattle.iface_text.specs.Format.{IfaceTree, AreUntyped, IsUntyped, AreRows, HasSpelling}

@@ -2,8 +2,8 @@
 use Rattle.std.specs.Prelude.{ℕ, suc, ◌+◌, List, [], ◌∷◌, ◌++◌, map, length, codes, nat_eq, Bool, true, false, not, ◌&&◌, if◌then◌else◌, Option, Some, None}
 use Rattle.std.specs.List.{list_all, list_any}
 use Rattle.scheme_data.specs.Data.{Plain, Number, Truth, Symbol, Listed, Plains, none, more}
-use Rattle.prim_table.specs.declared.primitives.Primitive.{Primitive as Builtin}
-use Rattle.prim_table.specs.Table.{prim_named, params_of}
+use Rattle.built_table.specs.declared.primitives.Primitive.{Primitive as Builtin}
+use Rattle.built_table.specs.Table.{prim_named, params_of}
 use Rattle.name_table.specs.Names.{has_name, place_of}
 use Rattle.iface_text.specs.declared.interface.Row.{Row}
 use Rattle.iface_text.specs.Format.{IfaceTree}

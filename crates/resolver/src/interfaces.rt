@@ -5,9 +5,9 @@ ghost use Rattle.iface_text.specs.Format.{iface_tree};
 ghost use Rattle.resolver.specs.Elaboration.{row_for};
 ghost use Rattle.resolver.specs.UseTables.{row_named, HaveSameRows, OfferSameRows};
 
+use built_table::Ty;
 use iface_text::{Iface, Row, RowKind};
 use indexmap::IndexMap;
-use prim_table::Ty;
 use scheme_data::{List, OutOfMemory};
 use std::alloc::Global;
 use std::marker::Model;

@@ -2,7 +2,7 @@
 ghost use Rattle.std.specs.Prelude.{◌≡◌, IfOk, IfSome, Some, map, replicate};
 ghost use Rattle.std.specs.Option.{option_map};
 ghost use Rattle.scheme_data.specs.Data.{AreProper, plain_all};
-ghost use Rattle.prim_table.specs.declared.primitives.Ty.TheVariants.{Obj};
+ghost use Rattle.built_table.specs.declared.primitives.Ty.TheVariants.{Obj};
 ghost use Rattle.iface_text.specs.Format.{iface_tree, HasSpelling};
 ghost use Rattle.iface_text.specs.Lines.{untyped_row};
 ghost use Rattle.module_head.specs.Trees.{import_tree, head_tree};
@@ -14,10 +14,10 @@ ghost use Rattle.resolver.specs.Parts.{draft_tree};
 
 use crate::drafts::{Draft, read_draft};
 use crate::uses::uses_for;
+use built_table::Ty;
 use core_tree::{ImportItem, Module};
 use iface_text::{Iface, Row, RowKind};
 use module_head::{Head, Import};
-use prim_table::Ty;
 use scheme_data::{Datum, List, OutOfMemory, Stack, Text};
 use std::alloc::Global;
 

@@ -1,8 +1,8 @@
 // The expressions of a module.
-ghost use Rattle.std.specs.Prelude.{◌≡◌, ◌+◌, length, IfOk, Some};
+ghost use Rattle.std.specs.Prelude.{◌≡◌, ◌+◌, IfOk, Some};
 ghost use Rattle.std.specs.Option.{option_map};
 ghost use Rattle.scheme_data.specs.Data.{plain, plain_all};
-ghost use Rattle.prim_table.specs.Table.{params_of, prim_named};
+ghost use Rattle.built_table.specs.Table.{prim_named};
 ghost use Rattle.name_table.specs.Names.{place_of};
 ghost use Rattle.module_head.specs.Heads.{symbol_of};
 ghost use Rattle.core_tree.specs.Tree.{tree};
@@ -10,10 +10,10 @@ ghost use Rattle.resolver.specs.Drafts.{taking, variable, global_operator, opera
 ghost use Rattle.resolver.specs.Parts.{node_trees, scope_of, operator_of};
 
 use crate::names::names_special_form;
+use built_table::{Primitive, prim_by_name};
 use core_tree::{Const, GlobalRef, Node, VarId};
 use module_head::{name_is, symbol};
 use name_table::NameTable;
-use prim_table::{Primitive, prim_by_name};
 use scheme_data::{Datum, OutOfMemory};
 use sqlite_items::{Boxed, Items};
 use std::alloc::Global;
@@ -45,23 +45,12 @@ pub fn number_after(first: u32, more: usize) -> Result<u32, OutOfMemory>
     first.checked_add(more).ok_or(OutOfMemory)
 }
 
-/// How many arguments a primitive takes.
-fn arity(p: Primitive) -> usize
-    ensures { result ≡ length (params_of p) }
-{
-    match p {
-        Primitive::Add | Primitive::Less => 2,
-        Primitive::Display => 1,
-        Primitive::Newline => 0,
-    }
-}
-
 /// The primitive of a name, where it takes so many arguments.
 fn primitive(name: &[u8], args: usize) -> Option<Primitive>
     ensures { result ≡ taking args (prim_named name.now) }
 {
     let p = prim_by_name(name)?;
-    if args == arity(p) { Some(p) } else { None }
+    if args == p.arity() { Some(p) } else { None }
 }
 
 /// The `if` of these parts; none where they aren't three.

@@ -3,7 +3,7 @@ use Rattle.std.proofs.Common.{rules, ◌≡◌, List, [], ◌∷◌, true, refl}
 use Rattle.std.specs.Prelude.{codes}
 use Rattle.base_io.specs.declared.end.End.TheVariants.{Ended, Raised, Spent}
 use Rattle.scheme_data.specs.Decimal.{decimal_text}
-use Rattle.prim_table.specs.declared.primitives.Primitive.TheVariants.{Display}
+use Rattle.built_table.specs.declared.primitives.Primitive.TheVariants.{Display}
 use Rattle.core_tree.specs.Tree.{Tree, Sequence, none, more, FunctionTree, ModuleTree, own_callee}
 use Rattle.c_tree.specs.declared.op.Op.TheVariants.{Primitive as Does}
 use Rattle.c_tree.specs.declared.tree.CTy.TheVariants.{Obj, Long}

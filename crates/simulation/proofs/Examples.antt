@@ -3,7 +3,7 @@ use Rattle.std.proofs.Common.{rules, ◌≡◌, List, [], ◌∷◌, refl}
 use Rattle.std.specs.Prelude.{codes}
 use Rattle.base_io.specs.declared.end.End.TheVariants.{Ended, Raised}
 use Rattle.scheme_data.specs.Decimal.{decimal_text}
-use Rattle.prim_table.specs.declared.primitives.Primitive.TheVariants.{Display, Newline}
+use Rattle.built_table.specs.declared.primitives.Primitive.TheVariants.{Display, Newline}
 use Rattle.core_tree.specs.Tree.{Tree, Sequence, none, more}
 use Rattle.c_tree.specs.declared.op.Op.TheVariants.{UnboxLong, Primitive as Does}
 use Rattle.c_tree.specs.declared.tree.CTy.TheVariants.{Obj, Long}

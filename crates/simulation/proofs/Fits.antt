@@ -1,9 +1,9 @@
 -- Tests and coercions of arguments, left to right.
 use Rattle.std.proofs.Common.{◌≡◌, suc, List, [], ◌∷◌, length, true, false, refl, sym, ap, ◌∙◌, subst, inl, inr, eq-eqb}
 use Rattle.std.specs.Prelude.{nat_eq, if◌then◌else◌}
-use Rattle.prim_table.specs.declared.primitives.Ty.{Ty}
-use Rattle.prim_table.specs.declared.primitives.Ty.TheVariants as ty
-use Rattle.prim_table.specs.Table.{type_name}
+use Rattle.built_table.specs.declared.primitives.Ty.{Ty}
+use Rattle.built_table.specs.declared.primitives.Ty.TheVariants as ty
+use Rattle.built_table.specs.Table.{type_name}
 use Rattle.meaning.specs.Value.{Value, Fixnum, Boolean, Empty, Unspecified, State, Outcome}
 use Rattle.meaning.specs.Value as src
 use Rattle.meaning.specs.Primitives.{fits, tested}

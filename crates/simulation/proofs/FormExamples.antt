@@ -3,7 +3,7 @@ use Rattle.std.proofs.Common.{rules, ◌≡◌, List, [], ◌∷◌, None, Some,
 use Rattle.std.specs.Prelude.{codes}
 use Rattle.base_io.specs.declared.end.End.TheVariants.{Ended, Spent}
 use Rattle.scheme_data.specs.Decimal.{decimal_text}
-use Rattle.prim_table.specs.declared.primitives.Primitive.TheVariants.{Display}
+use Rattle.built_table.specs.declared.primitives.Primitive.TheVariants.{Display}
 use Rattle.iface_text.specs.Lines.{untyped_row}
 use Rattle.core_tree.specs.Tree.{Tree, If, Trees, none, more, FunctionTree, ModuleTree}
 use Rattle.core_tree.specs.WellFormed.{IsWellFormed}

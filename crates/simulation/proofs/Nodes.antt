@@ -1,7 +1,7 @@
 -- The statements of a node do what the node does.
 use Rattle.std.proofs.Common.{◌≡◌, ℕ, List, [], ◌∷◌, refl, sym, ap, ◌∙◌, subst, inr}
-use Rattle.prim_table.specs.declared.primitives.Ty.{Ty}
-use Rattle.prim_table.specs.Table.{params_of, result_of}
+use Rattle.built_table.specs.declared.primitives.Ty.{Ty}
+use Rattle.built_table.specs.Table.{params_of, result_of}
 use Rattle.core_tree.specs.Tree.{Tree, Constant, Variable, If, Sequence, Call, Primitive, Trees, none, more, ModuleTree}
 use Rattle.meaning.specs.Value.{Value, Unspecified, State, Outcome, bind}
 use Rattle.meaning.specs.Value as src

@@ -2,9 +2,9 @@
 use Rattle.std.proofs.Common.{◌≡◌, ℕ, List, [], ◌∷◌, ◌++◌, Bool, true, false, refl, sym, ap, ◌∙◌, arith}
 use Rattle.std.specs.Prelude.{codes, ℤ, ◌+ℤ◌, int_lt, map, if◌then◌else◌}
 use Rattle.scheme_data.specs.Fixnum.{is_fixnum}
-use Rattle.prim_table.specs.declared.primitives.Primitive.{Primitive as Builtin}
-use Rattle.prim_table.specs.declared.primitives.Primitive.TheVariants.{Add, Less, Display, Newline}
-use Rattle.prim_table.specs.Table.{params_of, result_of}
+use Rattle.built_table.specs.declared.primitives.Primitive.{Primitive as Builtin}
+use Rattle.built_table.specs.declared.primitives.Primitive.TheVariants.{Add, Less, Display, Newline}
+use Rattle.built_table.specs.Table.{params_of, result_of}
 use Rattle.meaning.specs.Value.{Value, Fixnum, Boolean, Empty, Unspecified, State}
 use Rattle.meaning.specs.Value as src
 use Rattle.meaning.specs.Primitives.{act}

@@ -1,6 +1,6 @@
 use Rattle.std.proofs.Common.{◌≡◌, sym, ◌∙◌, subst, ap, map, arith, List, Some, None}
 use Rattle.std.proofs.lemmas.Result.{IfOk-weaker, on_ok_weaker}
-use Rattle.prim_table.specs.declared.primitives.Ty.TheVariants.{Obj as Object}
+use Rattle.built_table.specs.declared.primitives.Ty.TheVariants.{Obj as Object}
 use Rattle.core_tree.specs.declared.tree.Node.{Node}
 use Rattle.core_tree.specs.Tree.{Tree, trees, tree}
 use Rattle.core_tree.specs.WellFormed.{AsMany}
