@@ -142,9 +142,9 @@ run_means as_given bytes args turns seen stands runs = runs
 run_means (as_interface source) bytes args turns seen stands runs = runs
 run_means (as_object source texts) bytes args turns seen stands runs = runs
 run_means (as_program compilations) bytes args turns seen stands runs = record {
-  program = stands.program;
-  is_program = stands.is_program;
-  same = λ others is. runs.is ∙ ap (λ (items : List Item). cm items no_input args turns) (sym (runs.program.only stands.items stands.text)) ∙ stands.same others is no_input args turns;
+  program = stands.means.program;
+  is_program = stands.means.is_program;
+  same = λ others is. runs.is ∙ ap (λ (items : List Item). cm items no_input args turns) (sym (runs.program.only stands.means.items stands.means.text)) ∙ stands.means.same others is no_input args turns;
 }
 
 -- the effect of a run

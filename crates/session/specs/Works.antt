@@ -17,8 +17,8 @@ use Rattle.c_meaning.specs.Checked.{IsChecked}
 use Rattle.unit_compile.specs.Compilation.{Exported, NotExported, Compiled, NotCompiled}
 use Rattle.linker.specs.declared.linking.LinkErr.TheVariants as linking
 use Rattle.linker.specs.Links.{Linked, NotLinked}
-use Rattle.whole_program.specs.Sources.{IsProgramOf, MeansSources}
-use Rattle.whole_program.specs.Law.{Compilation, sources_of}
+use Rattle.whole_program.specs.Sources.{IsProgramOf}
+use Rattle.whole_program.specs.Law.{Compilation, sources_of, IsLinkedFrom}
 use Rattle.commands.specs.declared.command.Command.{Command}
 use Rattle.commands.specs.declared.command.Command.TheVariants.{Blank, Iface, Compile, Link, Run}
 use Rattle.session.specs.declared.answer.Refusal.{Refusal}
@@ -48,7 +48,7 @@ unfoldable pub Stands : Kind → Bytes → Type 0
 Stands as_given bytes = Unit {0}
 Stands (as_interface source) bytes = Exported source bytes
 Stands (as_object source texts) bytes = Compiled source texts bytes
-Stands (as_program compilations) bytes = MeansSources (sources_of compilations) bytes
+Stands (as_program compilations) bytes = IsLinkedFrom compilations bytes
 
 abbrev pub AllStand : List Held → Type 0
 AllStand [] = Unit {0}

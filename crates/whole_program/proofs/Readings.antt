@@ -76,7 +76,7 @@ one_modules own (s ∷ ss) (m ∷ ms) h rows (n ∷ ns) its = ap₂ (λ x xs. x 
 pub modules_of : (sources : List (List ℕ)) (ms : List ModuleTree) → AreReadAs sources ms → AreLinkable ms → AreModulesOf sources ms
 modules_of sources ms h link = record { interfaces = map interface_in ms; own = own_interfaces sources ms h; are = own_modules (map interface_in ms) sources ms h link.current }
 
-one_modules_of : (sources : List (List ℕ)) (ms : List ModuleTree) → AreReadAs sources ms → AreLinkable ms → (others : List ModuleTree) → AreModulesOf sources others → others ≡ ms
+pub one_modules_of : (sources : List (List ℕ)) (ms : List ModuleTree) → AreReadAs sources ms → AreLinkable ms → (others : List ModuleTree) → AreModulesOf sources others → others ≡ ms
 one_modules_of sources ms h link others its =
     one_modules (map interface_in ms) sources ms h link.current others
     (subst (λ is. AreModulesWith is sources others) (one_interfaces sources ms h its.interfaces its.own) its.are)

@@ -12,10 +12,10 @@ use Rattle.object_text.specs.Format.{ObjectTree}
 use Rattle.unit_compile.specs.Compilation.{Compiled}
 use Rattle.linker.specs.Links.{AreObjectTexts, Linked, part_of}
 use Rattle.whole_program.specs.Sources.{imports_in, MeansSources}
-use Rattle.whole_program.specs.Law.{Compilation, AreCompiled, sources_of, LinkKeepsMeaning}
+use Rattle.whole_program.specs.Law.{Compilation, AreCompiled, sources_of, AreModulesAsCompiled, HaveSameModules, LinkKeepsMeaning}
 use Rattle.whole_program.proofs.Programs.{AreLinkable, is_program}
 use Rattle.whole_program.proofs.Objects.{AreObjectsOf, same_parts, same_names, chosen_objects, translated, same_main, linkable}
-use Rattle.whole_program.proofs.Readings.{IsReadAs, AreReadAs, modules_of, one_program}
+use Rattle.whole_program.proofs.Readings.{IsReadAs, AreReadAs, modules_of, one_modules_of, one_program}
 
 -- Compilations ------------------------------------------------------------------------------
 
@@ -92,8 +92,44 @@ module _ (law : KeepsMeaning) (sources texts : List (List ℕ)) (text : List ℕ
         faithful.same input args turns ∙ ap (λ (p : List ModuleTree). src p input args turns) (sym (one_program sources ms read link l.root is_root l.order is_order others is));
   }
 
+-- Modules -----------------------------------------------------------------------------------
+
+as_compiled : (cs : List Compilation) (texts : List (List ℕ)) (compiled : AreCompiled cs texts) → AreModulesAsCompiled cs (units cs texts compiled).modules
+unfolding units
+as_compiled [] [] h = tt
+as_compiled [] (text ∷ texts) h = absurd h
+as_compiled (c ∷ cs) [] h = absurd h
+as_compiled (c ∷ cs) (text ∷ texts) h = (h.0.is_module, as_compiled cs texts h.1)
+
+only_compiled : (cs : List Compilation) (texts : List (List ℕ)) (compiled : AreCompiled cs texts) → (others : List ModuleTree) → AreModulesAsCompiled cs others → others ≡ (units cs texts compiled).modules
+unfolding units
+only_compiled [] [] h [] its = refl
+only_compiled [] [] h (n ∷ ns) its = absurd its
+only_compiled [] (text ∷ texts) h others its = absurd h
+only_compiled (c ∷ cs) [] h others its = absurd h
+only_compiled (c ∷ cs) (text ∷ texts) h [] its = absurd its
+only_compiled (c ∷ cs) (text ∷ texts) h (n ∷ ns) its = ap₂ (λ x xs. x ∷ xs) (h.0.only n its.0) (only_compiled cs texts h.1 ns its.1)
+
+same_modules : (cs : List Compilation) (texts : List (List ℕ)) (compiled : AreCompiled cs texts) → AreLinkable (units cs texts compiled).modules → HaveSameModules cs
+same_modules cs texts compiled link =
+    let all = units cs texts compiled in
+    record {
+      modules = all.modules;
+      as_compiled = as_compiled cs texts compiled;
+      as_now = modules_of (sources_of cs) all.modules all.read link;
+      only_compiled = only_compiled cs texts compiled;
+      only_now = one_modules_of (sources_of cs) all.modules all.read link;
+    }
+
 pub keeps : KeepsMeaning → LinkKeepsMeaning
 unfolding LinkKeepsMeaning
 keeps law cs texts text compiled l =
     let all = units cs texts compiled in
-    means law (sources_of cs) texts text l all.modules all.read all.formed (subst (AreObjectsOf all.modules) (l.are_objects.only all.objects all.texts_are) all.are)
+    let are : AreObjectsOf all.modules l.objects = subst (AreObjectsOf all.modules) (l.are_objects.only all.objects all.texts_are) all.are in
+    record {
+      objects = texts;
+      compiled = compiled;
+      linked = l;
+      same_modules = same_modules cs texts compiled (linkable all.modules l.objects are all.formed l.accepted);
+      means = means law (sources_of cs) texts text l all.modules all.read all.formed are;
+    }
