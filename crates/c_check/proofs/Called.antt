@@ -1,6 +1,7 @@
 -- The functions that may be called, and what fits where they are looked up.
 use Rattle.std.proofs.Common.{◌≡◌, ℕ, Bool, true, false, ◌&&◌, cond, List, [], ◌∷◌, ◌++◌, map, Option, Some, None, refl, sym, ap, ◌∙◌, if◌then◌else◌}
 use Rattle.std.proofs.Math.Bool.{and-false}
+use Rattle.scheme_data.specs.Names.{are_distinct, is_same}
 use Rattle.c_tree.specs.declared.tree.CTy.{CTy}
 use Rattle.c_tree.specs.declared.tree.CTy.TheVariants.{Obj, Int}
 use Rattle.c_tree.specs.declared.tree.CArg.{CArg}
@@ -10,8 +11,7 @@ use Rattle.c_tree.specs.declared.tree.CExpr.{CExpr}
 use Rattle.c_tree.specs.declared.tree.CExpr.TheVariants as expr
 use Rattle.c_tree.specs.declared.tree.CVar.{CVar}
 use Rattle.c_tree.specs.Code.{Code, done, assign, call, return, test, loop, Fun, Item, declared, defined}
-use Rattle.c_meaning.specs.Execution.{is_same}
-use Rattle.c_meaning.specs.Checked.{Signature, signature_named, variable_named, callable, call_fits_signature, call_type, is_the_type, has_type, expr_fits, assigned_fits, code_fits, returns_last, same_type, same_types, are_distinct, variables_of, is_looped, is_straight, Role, Main, Maker, Initializer, Function, role_of, may_call, has_shape, function_fits, item_fits}
+use Rattle.c_meaning.specs.Checked.{Signature, signature_named, variable_named, callable, call_fits_signature, call_type, is_the_type, has_type, expr_fits, assigned_fits, code_fits, returns_last, same_type, same_types, variables_of, is_looped, is_straight, Role, Main, Maker, Initializer, Function, role_of, may_call, has_shape, function_fits, item_fits}
 use Rattle.name_table.specs.Names.{has_name}
 use Rattle.c_check.proofs.SameTypes.{no_variables}
 use Rattle.c_check.proofs.Tables.{is_same-true}

@@ -2,6 +2,7 @@
 use Rattle.std.proofs.Common.{◌≡◌, ℕ, suc, ◌+◌, Bool, true, false, not, ◌&&◌, ◌||◌, List, [], ◌∷◌, ◌++◌, refl, sym, ap, ◌∙◌, append_assoc}
 use Rattle.std.proofs.Math.Bool.{and-true}
 use Rattle.std.specs.List.{list_all, list_any}
+use Rattle.scheme_data.specs.Names.{are_distinct, is_same}
 use Rattle.c_tree.specs.declared.function.CItem.{CItem}
 use Rattle.c_tree.specs.declared.function.CItem.TheVariants.{Declared, Defined}
 use Rattle.c_tree.specs.declared.tree.CBlock.{CBlock}
@@ -9,8 +10,7 @@ use Rattle.c_tree.specs.declared.tree.CStmt.{CStmt}
 use Rattle.c_tree.specs.Code.{Code, done, assign, call, return, test, loop, Item}
 use Rattle.c_tree.specs.Functions.{items_of}
 use Rattle.c_tree.specs.Layout.{size, flat, code_of, IsLaid}
-use Rattle.c_meaning.specs.Execution.{is_same}
-use Rattle.c_meaning.specs.Checked.{is_called_once, once_in_callee, once_in_expr, once_in, once_in_main, defined_names, are_distinct, all_called, calls_each_once}
+use Rattle.c_meaning.specs.Checked.{is_called_once, once_in_callee, once_in_expr, once_in, once_in_main, defined_names, all_called, calls_each_once}
 use Rattle.c_check.specs.Once.{once_in_statements, is_item_called}
 
 -- The statements --------------------------------------------------------------------------------

@@ -4,12 +4,12 @@ use Rattle.std.proofs.lemmas.List.{map-append}
 use Rattle.std.proofs.lemmas.List.Folds.{list_any-append}
 use Rattle.std.specs.List.{list_all, list_any}
 use Rattle.std.specs.Cmp.Lexicographic.{nat_list_eq_equiv}
+use Rattle.scheme_data.specs.Names.{are_distinct, is_same}
 use Rattle.c_tree.specs.declared.function.CItem.{CItem}
 use Rattle.c_tree.specs.declared.tree.CVar.{CVar}
 use Rattle.c_tree.specs.Code.{Item, declared, defined}
 use Rattle.c_tree.specs.Functions.{item_of, items_of}
-use Rattle.c_meaning.specs.Execution.{is_same}
-use Rattle.c_meaning.specs.Checked.{defined_names, are_distinct}
+use Rattle.c_meaning.specs.Checked.{defined_names}
 use Rattle.name_table.specs.Names.{has_name}
 use Rattle.c_check.specs.Names.{are_fresh}
 use Rattle.c_check.specs.Variables.{names_of}

@@ -3,11 +3,12 @@ use Rattle.std.proofs.Common.{◌≡◌, ℕ, ◌+◌, Bool, true, false, ◌&&�
 use Rattle.std.proofs.lemmas.List.{drop_all}
 use Rattle.std.specs.List.{list_any}
 use Rattle.std.specs.Cmp.Lexicographic.{nat_list_eq_equiv}
+use Rattle.scheme_data.specs.Names.{are_distinct}
 use Rattle.c_tree.specs.declared.function.CItem.{CItem}
 use Rattle.c_tree.specs.Code.{Item}
 use Rattle.c_tree.specs.Functions.{item_of, items_of}
 use Rattle.c_tree.specs.Names.{is_main}
-use Rattle.c_meaning.specs.Checked.{Signature, signature_of, signature_named, item_fits, items_fit, defined_names, are_distinct, calls_each_once, is_sound, is_checked}
+use Rattle.c_meaning.specs.Checked.{Signature, signature_of, signature_named, item_fits, items_fit, defined_names, calls_each_once, is_sound, is_checked}
 use Rattle.name_table.specs.Names.{has_name}
 use Rattle.c_check.specs.Signatures.{agrees_with, with_signature}
 use Rattle.c_check.proofs.Tables.{IsTableOf, no_signatures, with_one_more}

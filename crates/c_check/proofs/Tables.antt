@@ -3,7 +3,7 @@ use Rattle.std.proofs.Common.{◌≡◌, ℕ, Bool, true, false, not, ◌&&◌, 
 use Rattle.std.proofs.Math.Bool.{and-true, and_self}
 use Rattle.std.specs.Cmp.{first_so, second_so}
 use Rattle.std.specs.Cmp.Lexicographic.{bytes_decides}
-use Rattle.c_meaning.specs.Execution.{is_same}
+use Rattle.scheme_data.specs.Names.{is_same}
 use Rattle.c_meaning.specs.Checked.{Signature, same_type, same_types, same_signature, signature_named, agrees}
 use Rattle.c_check.specs.Signatures.{agrees_with, or_added, with_signature}
 use Rattle.c_check.proofs.SameTypes.{same_type-true, same_types-true}

@@ -1,7 +1,8 @@
 -- The defined names of a program.
 use Rattle.std.specs.Prelude.{◌≡◌, ℕ, List, true, false, Option, Some, None}
+use Rattle.scheme_data.specs.Names.{are_distinct}
 use Rattle.c_tree.specs.Code.{Item}
-use Rattle.c_meaning.specs.Checked.{defined_names, are_distinct}
+use Rattle.c_meaning.specs.Checked.{defined_names}
 
 -- the names themselves, where they are distinct
 abbrev pub MakesDistinct : List (List ℕ) → Option (List (List ℕ)) → Type 0

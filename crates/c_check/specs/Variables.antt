@@ -1,9 +1,10 @@
 -- Variables with distinct names.
 use Rattle.std.specs.Prelude.{◌≡◌, ℕ, List, map, Bool, true, false, Option, Some, None}
+use Rattle.scheme_data.specs.Names.{are_distinct}
 use Rattle.name_table.specs.Names.{has_name}
 use Rattle.c_tree.specs.declared.tree.CTy.{CTy}
 use Rattle.c_tree.specs.declared.tree.CVar.{CVar}
-use Rattle.c_meaning.specs.Checked.{variable_named, are_distinct}
+use Rattle.c_meaning.specs.Checked.{variable_named}
 
 abbrev pub names_of : List CVar → List (List ℕ)
 names_of vars = map (λ v. v.name) vars

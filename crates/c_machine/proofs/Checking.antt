@@ -4,6 +4,7 @@ use Rattle.std.specs.Prelude.{codes, find}
 use Rattle.std.specs.List.{list_any, list_all}
 use Rattle.std.specs.Cmp.Lexicographic.{nat_list_eq_equiv, same_text}
 use Rattle.std.proofs.lemmas.Bool.{and_parts, and_from}
+use Rattle.scheme_data.specs.Names.{are_distinct, is_same}
 use Rattle.c_tree.specs.declared.tree.CTy.{CTy}
 use Rattle.c_tree.specs.declared.tree.CTy.TheVariants.{Obj, Int}
 use Rattle.c_tree.specs.declared.tree.CVar.{CVar}
@@ -13,9 +14,9 @@ use Rattle.c_tree.specs.declared.function.CItem.TheVariants.{Declared, Defined}
 use Rattle.c_tree.specs.Code.{Code, done, assign, call, return, test, loop, defined}
 use Rattle.c_tree.specs.Functions.{fun_of, item_of, items_of}
 use Rattle.c_tree.specs.Names.{is_main, is_maker, is_initializer}
-use Rattle.c_meaning.specs.Execution.{is_same, position_of, fun_named}
+use Rattle.c_meaning.specs.Execution.{position_of, fun_named}
 use Rattle.c_meaning.specs.Program.{functions_of}
-use Rattle.c_meaning.specs.Checked.{Role, Main as Main_role, Maker, Initializer, Function, role_of, Signature, signature_of, signature_named, same_type, same_types, same_signature, are_distinct, code_fits, returns_last, is_looped, is_straight, has_shape, function_fits, may_call, callable, item_fits, agrees, items_fit, defined_names, calls_each_once, is_sound, is_checked, IsChecked}
+use Rattle.c_meaning.specs.Checked.{Role, Main as Main_role, Maker, Initializer, Function, role_of, Signature, signature_of, signature_named, same_type, same_types, same_signature, code_fits, returns_last, is_looped, is_straight, has_shape, function_fits, may_call, callable, item_fits, agrees, items_fit, defined_names, calls_each_once, is_sound, is_checked, IsChecked}
 use Rattle.c_machine.specs.Decoded.{variables_of, variable_names, definitions, function_names, has_distinct, HasNames}
 use Rattle.c_machine.proofs.Means.{meant, Shape, Straight, shape_of, statements_of, statements_in, shape_in, Inner, Outer, level_by, level_in, ShapeFits, Callable, Callee, Typed, AllTyped}
 use Rattle.c_machine.proofs.Leading.{straight}

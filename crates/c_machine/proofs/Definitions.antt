@@ -3,12 +3,12 @@ use Rattle.std.proofs.Common.{◌≡◌, ℕ, suc, ◌+◌, ◌<◌, true, false
 use Rattle.std.specs.List.{list_all}
 use Rattle.std.proofs.lemmas.List.{append-nil, map-append}
 use Rattle.std.proofs.lemmas.List.Folds.{list_all-append}
+use Rattle.scheme_data.specs.Names.{are_distinct}
 use Rattle.name_table.specs.Names.{has_name}
 use Rattle.c_tree.specs.declared.tree.CVar.{CVar}
 use Rattle.c_tree.specs.declared.function.CFun.{CFun}
 use Rattle.c_tree.specs.declared.function.CItem.{CItem}
 use Rattle.c_meaning.specs.Execution.{Names}
-use Rattle.c_meaning.specs.Checked.{are_distinct}
 use Rattle.c_machine.specs.Decoded.{variable_names, definitions, definition_in, function_names, function_of, functions_of, has_distinct}
 use Rattle.c_machine.specs.declared.program.Function.{Function}
 use Rattle.c_machine.proofs.Items.{map_more, map_split, more_item, split_item}

@@ -3,9 +3,9 @@ use Rattle.std.proofs.Common.{◌≡◌, ℕ, suc, ◌+◌, ◌≤◌, Bool, tru
 use Rattle.std.proofs.lemmas.Bool.Decides.{nat_tests}
 use Rattle.std.specs.List.{position_or_len}
 use Rattle.std.specs.Cmp.Lexicographic.{nat_list_eq_equiv}
+use Rattle.scheme_data.specs.Names.{are_distinct, is_same}
 use Rattle.name_table.specs.Names.{has_name, place_of}
-use Rattle.c_meaning.specs.Execution.{Names, is_same, position_of}
-use Rattle.c_meaning.specs.Checked.{are_distinct}
+use Rattle.c_meaning.specs.Execution.{Names, position_of}
 
 -- Places ------------------------------------------------------------------------------------
 

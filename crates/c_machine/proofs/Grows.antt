@@ -2,6 +2,7 @@
 use Rattle.std.proofs.Common.{◌≡◌, ℕ, zero, suc, Bool, true, false, List, [], ◌∷◌, ◌++◌, Option, Some, None, refl, sym, ap, ◌∙◌, subst, append_assoc, if◌then◌else◌, ⊎_elim}
 use Rattle.std.specs.Prelude.{ℤ, pos, negsuc, ◌==◌, codes, ◌+ℤ◌}
 use Rattle.std.proofs.lemmas.List.{append-nil}
+use Rattle.scheme_data.specs.Names.{is_same}
 use Rattle.scheme_data.specs.Fixnum.{is_fixnum}
 use Rattle.base_io.specs.Observation.{Observation}
 use Rattle.built_table.specs.declared.primitives.Primitive.TheVariants.{Add, Less, Display, Newline}
@@ -16,7 +17,7 @@ use Rattle.c_tree.specs.Code.{Code, done, assign, call, return, test, loop, Fun}
 use Rattle.c_meaning.specs.Word.{Word, Fixnum, False, True, Nil, Unspec, Eof, printed}
 use Rattle.c_meaning.specs.State.{Cell, AWord, ANumber, State, Frame, put, Answer, Has, Leaves, Stops, Ends, Faults, Flow, Next, Goes, Returns, Escapes, Raises, Spends, Fails, with, chosen, after, answer, take_from}
 use Rattle.c_meaning.specs.Operations.{Argument, ACell, AString, operate, fixnum_in}
-use Rattle.c_meaning.specs.Execution.{Names, Lower, is_same, position_of, arguments, cells, again, iterate, looped, entry, names_of, enter, enter_any, invoke_by, eval_by, exec_by, exec, run, fun_named}
+use Rattle.c_meaning.specs.Execution.{Names, Lower, position_of, arguments, cells, again, iterate, looped, entry, names_of, enter, enter_any, invoke_by, eval_by, exec_by, exec, run, fun_named}
 use Rattle.c_meaning.specs.Program.{shown}
 use Rattle.c_machine.specs.declared.stepping.Frame.{Frame as Waiter}
 use Rattle.c_machine.specs.declared.program.Dest.{Dest}

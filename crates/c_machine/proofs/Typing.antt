@@ -5,6 +5,7 @@ use Rattle.std.specs.Cmp.Lexicographic.{nat_list_eq_equiv}
 use Rattle.std.proofs.lemmas.List.{get_or-append-add, set-append_right, length-set}
 use Rattle.std.proofs.lemmas.Bool.{cases_eq, eq-eqb, ne_eqb}
 use Rattle.std.proofs.lemmas.Option.{slice_get_within}
+use Rattle.scheme_data.specs.Names.{is_same}
 use Rattle.scheme_data.specs.Fixnum.{IsFixnum, long_word}
 use Rattle.c_tree.specs.declared.tree.CTy.{CTy}
 use Rattle.c_tree.specs.declared.tree.CTy.TheVariants.{Obj, Long, Char, Int}
@@ -13,7 +14,7 @@ use Rattle.c_tree.specs.declared.tree.CAtom.TheVariants as atoms
 use Rattle.c_tree.specs.declared.tree.CVar.{CVar}
 use Rattle.c_meaning.specs.Word.{Word, False, True, Nil, Unspec, Eof, number_of}
 use Rattle.c_meaning.specs.State.{Cell, AWord, ANumber, Frame, put}
-use Rattle.c_meaning.specs.Execution.{is_same, position_of, atom}
+use Rattle.c_meaning.specs.Execution.{position_of, atom}
 use Rattle.c_meaning.specs.Checked.{same_type, number_fits, is_byte, is_typed, variable_named, atom_fits}
 use Rattle.c_machine.specs.declared.program.Operand.{Operand}
 use Rattle.c_machine.specs.declared.program.Operand.TheVariants as operand

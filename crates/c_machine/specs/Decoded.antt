@@ -1,6 +1,7 @@
 -- What a program is decoded to: names as numbers, one line a statement.
 use Rattle.std.specs.Prelude.{◌≡◌, ℕ, suc, ◌+◌, List, [], ◌∷◌, ◌++◌, map, codes, length, Option, Some, None, slice_get, Bool, true}
 use Rattle.std.specs.List.{list_all}
+use Rattle.scheme_data.specs.Names.{are_distinct}
 use Rattle.scheme_data.specs.Fixnum.{long_word}
 use Rattle.built_table.specs.declared.primitives.Primitive.TheVariants.{Add, Less, Display, Newline}
 use Rattle.c_tree.specs.declared.op.Op.{Op}
@@ -21,7 +22,7 @@ use Rattle.c_tree.specs.Code.{Code, done, assign, call, return, test, loop}
 use Rattle.c_tree.specs.Layout.{size}
 use Rattle.c_tree.specs.Functions.{fun_of, items_of}
 use Rattle.c_meaning.specs.Execution.{Names, position_of}
-use Rattle.c_meaning.specs.Checked.{IsChecked, are_distinct}
+use Rattle.c_meaning.specs.Checked.{IsChecked}
 use Rattle.c_machine.specs.declared.program.Operand.{Operand}
 use Rattle.c_machine.specs.declared.program.Operand.TheVariants as operand
 use Rattle.c_machine.specs.declared.program.Dest.{Dest}

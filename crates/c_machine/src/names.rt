@@ -1,8 +1,8 @@
 // Names as numbers.
 ghost use Rattle.std.specs.Prelude.{◌≡◌, ◌++◌, ◌∷◌, [], true, false, IfOk, OnOk};
+ghost use Rattle.scheme_data.specs.Names.{are_distinct};
 ghost use Rattle.name_table.specs.Names.{has_name};
 ghost use Rattle.c_meaning.specs.Execution.{position_of};
-ghost use Rattle.c_meaning.specs.Checked.{are_distinct};
 ghost use Rattle.c_machine.specs.Decoded.{variable_names, variables_of, has_distinct, definitions, definition_in, function_names};
 
 use c_tree::{CFun, CItem, CVar};

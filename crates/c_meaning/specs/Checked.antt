@@ -1,6 +1,7 @@
 -- Checked programs: names are declared, distinct and agree, C types agree, and functions have their shapes.
 use Rattle.std.specs.Prelude.{ℕ, List, [], ◌∷◌, ◌++◌, map, find, filter, nat_le, nat_lt, ℤ, pos, negsuc, Bool, true, false, not, ◌&&◌, ◌||◌, if◌then◌else◌, IsTrue, Option, Some, None}
 use Rattle.std.specs.List.{list_all, list_any}
+use Rattle.scheme_data.specs.Names.{is_same, are_distinct}
 use Rattle.scheme_data.specs.Fixnum.{is_fixnum}
 use Rattle.built_table.specs.declared.primitives.Primitive.TheVariants.{Add, Less, Display, Newline}
 use Rattle.c_tree.specs.declared.op.Op.{Op}
@@ -18,7 +19,6 @@ use Rattle.c_tree.specs.declared.tree.CExpr.TheVariants as expr
 use Rattle.c_tree.specs.declared.tree.CVar.{CVar}
 use Rattle.c_tree.specs.Code.{Code, done, assign, call, return, test, loop, Fun, Item, declared, defined}
 use Rattle.c_tree.specs.Names.{is_main, is_maker, is_initializer}
-use Rattle.c_meaning.specs.Execution.{is_same}
 
 abbrev pub same_type : CTy → CTy → Bool
 same_type Obj Obj = true
@@ -174,10 +174,6 @@ returns_last (test e a b rest) = returns_last rest
 returns_last (loop l body rest) = false
 
 -- Functions ---------------------------------------------------------------------------------
-
-abbrev pub are_distinct : List (List ℕ) → Bool
-are_distinct [] = true
-are_distinct (x ∷ xs) = not (list_any (is_same x) xs) && are_distinct xs
 
 abbrev pub variables_of : Fun → List CVar
 variables_of f = f.params ++ f.locals

@@ -1,6 +1,6 @@
 -- The meaning of C: big-step over statements. Each iteration of a labelled `for` first takes a turn.
-use Rattle.std.specs.Prelude.{ℕ, zero, suc, List, [], ◌∷◌, ◌++◌, map, nat_eq, if◌then◌else◌, Bool, Option, Some, None, find}
-use Rattle.std.specs.Cmp.Lexicographic.{pointwise}
+use Rattle.std.specs.Prelude.{ℕ, zero, suc, List, [], ◌∷◌, ◌++◌, map, if◌then◌else◌, Bool, Option, Some, None, find}
+use Rattle.scheme_data.specs.Names.{is_same}
 use Rattle.base_io.specs.declared.end.FaultKind.TheVariants.{Entry}
 use Rattle.c_tree.specs.declared.tree.CAtom.{CAtom}
 use Rattle.c_tree.specs.declared.tree.CAtom.TheVariants as atoms
@@ -18,9 +18,6 @@ use Rattle.c_meaning.specs.Operations.{Argument, ACell, AString, operate}
 -- the names of a function's parameters and locals: a local stands for its position in them
 abbrev pub Names : Type 0
 Names = List (List ℕ)
-
-abbrev pub is_same : List ℕ → List ℕ → Bool
-is_same a b = pointwise nat_eq a b
 
 -- the position of a name, and the length where it isn't there
 abbrev pub position_of : List ℕ → Names → ℕ

@@ -1,4 +1,5 @@
 pub mod Backwards
+pub mod CNames
 pub mod Forwards
 pub mod Left
 pub mod NameShapes

@@ -1,12 +1,12 @@
 -- The functions that a module may call and their signatures: each C name is found with the signature of its function.
-use Rattle.std.proofs.Common.{◌≡◌, ℕ, zero, suc, ◌<◌, List, [], ◌∷◌, ◌++◌, map, replicate, Bool, true, false, ◌⊎◌, inl, inr, Some, refl, sym, ap, ◌∙◌, subst, arith}
+use Rattle.std.proofs.Common.{◌≡◌, ℕ, zero, suc, List, [], ◌∷◌, ◌++◌, map, replicate, Bool, true, false, ◌⊎◌, inl, inr, Some, refl, sym, ap, ◌∙◌, subst, arith}
 use Rattle.std.specs.Prelude.{not, ◌&&◌, ◌||◌, IsTrue, cond, slice_get, Contains}
-use Rattle.std.specs.List.{list_all, list_any}
+use Rattle.std.specs.List.{list_any}
 use Rattle.std.proofs.lemmas.Bool.{and_from, and_parts}
 use Rattle.std.proofs.lemmas.List.{map-append}
 use Rattle.std.proofs.lemmas.List.Folds.{list_any-append}
-use Rattle.std.proofs.lemmas.Bool.Decides.{nat_tests}
-use Rattle.scheme_data.specs.Symbols.{is_symbol_byte, IsName}
+use Rattle.scheme_data.specs.Names.{are_distinct, is_same}
+use Rattle.scheme_data.specs.Symbols.{IsName}
 use Rattle.core_tree.specs.declared.tree.GlobalRef.{GlobalRef}
 use Rattle.core_tree.specs.declared.tree.GlobalRef.TheVariants.{Own, Used}
 use Rattle.core_tree.specs.declared.tree.Use.{Use}
@@ -16,12 +16,10 @@ use Rattle.core_tree.specs.WellFormed as formed
 use Rattle.core_tree.specs.WellFormed.{IsFunction, AreFunctions, AreUses, module_of, row_of, same_use, each_once, IsWellFormed}
 use Rattle.c_tree.specs.declared.tree.CTy.{CTy}
 use Rattle.c_tree.specs.declared.tree.CTy.TheVariants.{Obj}
-use Rattle.c_tree.specs.Names.{function_name, maker_name, initializer_name, is_function_name}
-use Rattle.c_tree.proofs.NameShapes.{AreBytes, function_name-is_function_name, maker_name-is_function_name, initializer_name-is_function_name}
-use Rattle.c_meaning.specs.Execution.{is_same}
-use Rattle.c_meaning.specs.Checked.{Role, Function, role_of, may_call, signature_named, same_types, same_signature, are_distinct, callable, agrees}
+use Rattle.c_tree.specs.Names.{function_name, is_function_name}
+use Rattle.c_tree.proofs.CNames.{named_function, function_name_parts}
+use Rattle.c_meaning.specs.Checked.{Role, Function, role_of, may_call, signature_named, same_types, same_signature, callable, agrees}
 use Rattle.plan_rules.specs.Translation.{Name, c_name_of, callees}
-use Rattle.code_gen.proofs.Mangling.{function_same}
 use Rattle.code_gen.proofs.Roles.{function_role, last_names, last_other, last_distinct}
 use Rattle.code_gen.proofs.Variables.{same_name, is_itself, other_name, own_type}
 use Rattle.code_gen.proofs.Soundness.{signature}
@@ -107,24 +105,6 @@ own_has m (g ∷ gs) f h = elim h [
 abbrev pub names_of : List Callee → List Name
 names_of cs = map c_name_of cs
 
-symbol_small : (b : ℕ) → is_symbol_byte b ≡ true → b < 256
-symbol_small b e = grind (arith, nat_tests)
-
-symbols_are_bytes : (bs : List ℕ) → list_all is_symbol_byte bs ≡ true → AreBytes bs
-symbols_are_bytes [] e i = omega arith
-symbols_are_bytes (b ∷ bs) e zero = symbol_small b (and_parts (is_symbol_byte b) (list_all is_symbol_byte bs) e).0
-symbols_are_bytes (b ∷ bs) e (suc i) = symbols_are_bytes bs (and_parts (is_symbol_byte b) (list_all is_symbol_byte bs) e).1 i
-
-pub named_function : (m n : Name) → IsName m → IsName n → IsTrue (is_function_name (function_name m n))
-named_function m n of_module of_function =
-    function_name-is_function_name m n of_module.some of_function.some (symbols_are_bytes m of_module.bytes) (symbols_are_bytes n of_function.bytes)
-
-pub named_maker : (m : Name) → IsName m → IsTrue (is_function_name (maker_name m))
-named_maker m is = maker_name-is_function_name m is.some (symbols_are_bytes m is.bytes)
-
-pub named_initializer : (m : Name) → IsName m → IsTrue (is_function_name (initializer_name m))
-named_initializer m is = initializer_name-is_function_name m is.some (symbols_are_bytes m is.bytes)
-
 abbrev pub IsNamed : Callee → Type 0
 IsNamed c = IsTrue (is_function_name (c_name_of c))
 
@@ -174,20 +154,20 @@ same_test a b c d to from = go (is_same a b) refl
 
 -- names in one module
 own_test : (m a b : Name) → is_same (function_name m a) (function_name m b) ≡ is_same a b
-own_test m a b = same_test (function_name m a) (function_name m b) a b (λ e. (function_same m m a b e).names) (λ e. ap (function_name m) e)
+own_test m a b = same_test (function_name m a) (function_name m b) a b (λ e. (function_name_parts m a m b e).1) (λ e. ap (function_name m) e)
 
 -- names in two modules
 other_module : (m k a b : Name) → is_same k m ≡ false → is_same (function_name m a) (function_name k b) ≡ false
 other_module m k a b e =
     other_name (function_name m a) (function_name k b)
-    (λ q. let bad : false ≡ true = sym e ∙ ap (is_same k) (function_same m k a b q).modules ∙ is_itself k in absurd (cc))
+    (λ q. let bad : false ≡ true = sym e ∙ ap (is_same k) (function_name_parts m a k b q).0 ∙ is_itself k in absurd (cc))
 
 other_pair : (m k a b : Name) → (is_same m k && is_same a b) ≡ false → is_same (function_name m a) (function_name k b) ≡ false
 other_pair m k a b e =
     other_name (function_name m a) (function_name k b)
     (λ q.
-    let s = function_same m k a b q in
-    let bad : true ≡ false = sym (and_from (is_same m k) (is_same a b) (ap (is_same m) (sym s.modules) ∙ is_itself m) (ap (is_same a) (sym s.names) ∙ is_itself a)) ∙ e in absurd (cc))
+    let s = function_name_parts m a k b q in
+    let bad : true ≡ false = sym (and_from (is_same m k) (is_same a b) (ap (is_same m) (sym s.0) ∙ is_itself m) (ap (is_same a) (sym s.1) ∙ is_itself a)) ∙ e in absurd (cc))
 
 none_of : (a b : Bool) → (a || b) ≡ false → (a ≡ false) × (b ≡ false)
 none_of true b e = absurd (cc)
@@ -226,18 +206,18 @@ used_distinct (From k r ∷ us) e =
 used_distinct (Need k r ∷ us) e = used_distinct us (and_parts (not (list_any (same_use (Need k r)) us)) (each_once us) e).1
 
 any_name : (m x : Name) (fs : List FunctionTree) (others : List Name) → list_any (is_same (function_name m x)) others ≡ false
-    → list_any (is_same (function_name m x)) (names_of (map (own_callee m) fs) ++ others) ≡ list_any (formed.is_same x) (map (λ f. f.name) fs)
+    → list_any (is_same (function_name m x)) (names_of (map (own_callee m) fs) ++ others) ≡ list_any (is_same x) (map (λ f. f.name) fs)
 any_name m x [] others none = none
 any_name m x (f ∷ fs) others none =
     ap (λ b. b || list_any (is_same (function_name m x)) (names_of (map (own_callee m) fs) ++ others)) (own_test m x f.name) ∙ ap (λ b. is_same x f.name || b) (any_name m x fs others none)
 
 -- names of the module's functions, and others behind them
 all_distinct : (m : Name) (fs : List FunctionTree) (others : List Name) → ((x : Name) → list_any (is_same (function_name m x)) others ≡ false) → are_distinct others ≡ true
-    → are_distinct (names_of (map (own_callee m) fs) ++ others) ≡ formed.are_distinct (map (λ f. f.name) fs)
+    → are_distinct (names_of (map (own_callee m) fs) ++ others) ≡ are_distinct (map (λ f. f.name) fs)
 all_distinct m [] others none distinct = distinct
 all_distinct m (f ∷ fs) others none distinct =
     ap (λ b. not b && are_distinct (names_of (map (own_callee m) fs) ++ others)) (any_name m f.name fs others (none f.name))
-    ∙ ap (λ b. not (list_any (formed.is_same f.name) (map (λ f. f.name) fs)) && b) (all_distinct m fs others none distinct)
+    ∙ ap (λ b. not (list_any (is_same f.name) (map (λ f. f.name) fs)) && b) (all_distinct m fs others none distinct)
 
 -- each function that may be called has a name of its own
 pub callees_distinct : (m : ModuleTree) → IsWellFormed m → are_distinct (names_of (callees m)) ≡ true

@@ -2,6 +2,7 @@
 use Rattle.std.proofs.Common.{◌≡◌, ℕ, suc, ◌+◌, ◌≤◌, ◌^◌, Bool, true, false, List, [], ◌∷◌, ◌++◌, length, map, replicate, Option, Some, refl, sym, ap, ◌∙◌, subst, arith}
 use Rattle.std.specs.Prelude.{if◌then◌else◌, IsTrue}
 use Rattle.std.proofs.lemmas.Bool.{and_from}
+use Rattle.scheme_data.specs.Names.{are_distinct}
 use Rattle.core_tree.specs.declared.tree.VarId.{VarId}
 use Rattle.core_tree.specs.Tree.{Tree, Constant, Variable, If, Sequence, Call, Primitive, none, more, FunctionTree, ModuleTree, Callee, own_callee}
 use Rattle.core_tree.specs.WellFormed.{same_variable, IsFunction, IsWellFormed}
@@ -11,7 +12,7 @@ use Rattle.c_tree.specs.Code.{Code, done, loop, Fun, defined}
 use Rattle.c_tree.specs.Names.{local_name, label_name, is_function_name}
 use Rattle.c_tree.specs.Spelling.{NamedVars, NamedCode, NamedItem}
 use Rattle.c_tree.proofs.NameShapes.{is_label_name-label_name}
-use Rattle.c_meaning.specs.Checked.{Signature, signature_of, variables_of, are_distinct, code_fits, Function, role_of, is_looped, has_shape, function_fits}
+use Rattle.c_meaning.specs.Checked.{Signature, signature_of, variables_of, code_fits, Function, role_of, is_looped, has_shape, function_fits}
 use Rattle.plan_rules.specs.declared.rep.Rep.{Rep}
 use Rattle.plan_rules.specs.declared.rep.Rep.TheVariants.{Obj}
 use Rattle.plan_rules.specs.Representation.{Slot, PlainAt, slot_of, c_type_of}
@@ -23,7 +24,8 @@ use Rattle.code_gen.proofs.Counts.{below_none, below_one}
 use Rattle.code_gen.proofs.Variables.{counted_distinct, counted_locals, counted_named, local_named}
 use Rattle.code_gen.proofs.Roles.{function_role}
 use Rattle.code_gen.proofs.Soundness.{signature, Grounds, Fine, fine_done, fine_last}
-use Rattle.code_gen.proofs.Declared.{Within, called, callees_distinct, callees_named, named_at, named_function, signed}
+use Rattle.c_tree.proofs.CNames.{named_function}
+use Rattle.code_gen.proofs.Declared.{Within, called, callees_distinct, callees_named, named_at, signed}
 
 -- Parameters --------------------------------------------------------------------------------
 

@@ -4,7 +4,6 @@ pub mod Delivered
 pub mod Evaluated
 pub mod Fitting
 pub mod Functions
-pub mod Mangling
 pub mod OwnFunctions
 pub mod Places
 pub mod Related

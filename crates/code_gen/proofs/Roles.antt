@@ -2,9 +2,9 @@
 use Rattle.std.proofs.Common.{◌≡◌, ℕ, Bool, true, false, List, [], ◌∷◌, refl, ap, ◌∙◌}
 use Rattle.std.specs.Prelude.{◌||◌, if◌then◌else◌, IsTrue}
 use Rattle.std.specs.List.{list_any}
+use Rattle.scheme_data.specs.Names.{are_distinct, is_same}
 use Rattle.c_tree.specs.Names.{function_name, maker_name, initializer_name, is_function_name, is_main, is_maker, is_initializer}
-use Rattle.c_meaning.specs.Execution.{is_same}
-use Rattle.c_meaning.specs.Checked.{Main, Maker, Initializer, Function, role_of, are_distinct}
+use Rattle.c_meaning.specs.Checked.{Main, Maker, Initializer, Function, role_of}
 
 pub function_role : (m n : List ℕ) → role_of (function_name m n) ≡ Function
 unfolding function_name

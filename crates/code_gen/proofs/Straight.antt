@@ -3,19 +3,20 @@ use Rattle.std.proofs.Common.{◌≡◌, true, false, List, [], ◌∷◌, map, 
 use Rattle.std.specs.Prelude.{not, ◌&&◌, ◌||◌, cond, IsTrue}
 use Rattle.std.specs.List.{list_any}
 use Rattle.std.proofs.lemmas.Bool.{and_from}
+use Rattle.scheme_data.specs.Names.{are_distinct, is_same}
 use Rattle.core_tree.specs.Tree.{Callee, ModuleTree}
 use Rattle.core_tree.specs.WellFormed.{IsWellFormed}
 use Rattle.c_tree.specs.declared.tree.CTy.TheVariants.{Obj}
 use Rattle.c_tree.specs.Code.{done, return, Fun, Item, defined}
 use Rattle.c_tree.specs.Names.{function_name, maker_name, initializer_name, is_function_name}
 use Rattle.c_tree.specs.Spelling.{NamedVars, NamedCode, NamedItem, NamedItems}
-use Rattle.c_meaning.specs.Execution.{is_same}
-use Rattle.c_meaning.specs.Checked.{Role, Maker, Initializer, role_of, Signature, signature_of, same_signature, variables_of, are_distinct, code_fits, returns_last, is_straight, has_shape, function_fits, may_call, callable, agrees, items_fit, defined_names}
+use Rattle.c_meaning.specs.Checked.{Role, Maker, Initializer, role_of, Signature, signature_of, same_signature, variables_of, code_fits, returns_last, is_straight, has_shape, function_fits, may_call, callable, agrees, items_fit, defined_names}
 use Rattle.plan_rules.specs.Translation.{Name, c_name_of, callees, IsEmpty, TrFunctions}
 use Rattle.code_gen.specs.Settings.{Setting}
 use Rattle.code_gen.specs.Emission.{unspecified, IsInitialization}
 use Rattle.code_gen.proofs.Soundness.{signature, Fine, fine_end, fine_all_unused}
-use Rattle.code_gen.proofs.Declared.{Within, named_maker, named_initializer}
+use Rattle.c_tree.proofs.CNames.{named_maker, named_initializer}
+use Rattle.code_gen.proofs.Declared.{Within}
 use Rattle.code_gen.proofs.Functions.{HasVariables, has_variables, grounded}
 use Rattle.code_gen.proofs.Roles.{maker_role, initializer_role, last_names, function_not_maker, function_not_initializer, maker_not_initializer}
 

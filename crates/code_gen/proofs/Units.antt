@@ -3,6 +3,7 @@ use Rattle.std.proofs.Common.{◌≡◌, ℕ, zero, suc, ◌+◌, ◌<◌, true,
 use Rattle.std.specs.Prelude.{◌&&◌, IsTrue}
 use Rattle.std.proofs.lemmas.Bool.{and_from}
 use Rattle.std.proofs.lemmas.List.{map-append, take_more}
+use Rattle.scheme_data.specs.Names.{are_distinct}
 use Rattle.core_tree.specs.Tree.{FunctionTree, ModuleTree, Callee, own_callee, row_callee, used_callees}
 use Rattle.core_tree.specs.declared.tree.Use.{Use}
 use Rattle.core_tree.specs.declared.tree.Use.TheVariants.{From, Need}
@@ -14,7 +15,7 @@ use Rattle.c_tree.specs.Code.{Fun, Item, defined}
 use Rattle.c_tree.specs.Functions.{fun_of, item_of, items_of}
 use Rattle.c_tree.specs.Names.{function_name, maker_name}
 use Rattle.c_tree.specs.Spelling.{NamedItems}
-use Rattle.c_meaning.specs.Checked.{Signature, signature_of, Role, Initializer, Function, role_of, function_fits, may_call, callable, agrees, are_distinct, items_fit, defined_names}
+use Rattle.c_meaning.specs.Checked.{Signature, signature_of, Role, Initializer, Function, role_of, function_fits, may_call, callable, agrees, items_fit, defined_names}
 use Rattle.plan_rules.specs.Translation.{Name, c_name_of, IsEmpty, TrFunctions, callees, AreDeclared, outside_of, is_sound_with, Translated}
 use Rattle.code_gen.specs.declared.callees.OwnFunction.{OwnFunction}
 use Rattle.code_gen.specs.Callees.{function_of}

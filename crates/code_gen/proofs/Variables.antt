@@ -4,14 +4,14 @@ use Rattle.std.specs.Prelude.{not, ◌||◌, IsTrue, if◌then◌else◌}
 use Rattle.std.specs.List.{list_any}
 use Rattle.std.specs.Cmp.Lexicographic.{same_text, other_text}
 use Rattle.std.proofs.lemmas.Bool.{and_from}
+use Rattle.scheme_data.specs.Names.{are_distinct, is_same}
 use Rattle.c_tree.specs.declared.tree.CTy.{CTy}
 use Rattle.c_tree.specs.declared.tree.CTy.TheVariants.{Obj, Long, Char, Int}
 use Rattle.c_tree.specs.declared.tree.CVar.{CVar}
 use Rattle.c_tree.specs.Names.{local_name, is_local_name}
 use Rattle.c_tree.specs.Spelling.{NamedVars}
 use Rattle.c_tree.proofs.NameShapes.{local_name_injective, is_local_name-local_name}
-use Rattle.c_meaning.specs.Execution.{is_same}
-use Rattle.c_meaning.specs.Checked.{same_type, is_typed, variable_named, are_distinct}
+use Rattle.c_meaning.specs.Checked.{same_type, is_typed, variable_named}
 use Rattle.plan_rules.specs.Translation.{Name, IsLocal}
 use Rattle.code_gen.specs.Emission.{AreCounted, AreLocals}
 use Rattle.code_gen.proofs.Counts.{counted_later}

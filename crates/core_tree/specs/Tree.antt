@@ -1,5 +1,5 @@
 -- The plain tree of a module, of which every definition speaks.
-use Rattle.std.specs.Prelude.{ℕ, suc, List, [], ◌∷◌, map, find, slice_get, length, nat_eq, Bool, Option, Some, None}
+use Rattle.std.specs.Prelude.{ℕ, suc, List, [], ◌∷◌, find, slice_get, length, nat_eq, Bool, Option, Some, None}
 use Rattle.std.specs.Cmp.Lexicographic.{pointwise}
 use Rattle.built_table.specs.declared.primitives.Primitive.{Primitive as Builtin}
 use Rattle.built_table.specs.declared.primitives.Ty.{Ty}

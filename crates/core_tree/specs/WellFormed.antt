@@ -1,8 +1,8 @@
 -- What every later pass asks of a module.
 use Rattle.std.specs.Prelude.{◌≡◌, ℕ, List, [], ◌∷◌, map, length, Bool, true, false, not, ◌&&◌, IsTrue, Option, Some, None, nat_eq}
 use Rattle.std.specs.List.{list_all, list_any}
-use Rattle.std.specs.Cmp.Lexicographic.{pointwise}
 use Rattle.scheme_data.specs.Fixnum.{IsFixnum}
+use Rattle.scheme_data.specs.Names.{is_same, are_distinct}
 use Rattle.scheme_data.specs.Symbols.{IsName}
 use Rattle.built_table.specs.declared.primitives.Ty.{Ty}
 use Rattle.built_table.specs.Table.{params_of}
@@ -62,14 +62,6 @@ pub record IsFunction (m : ModuleTree) (f : FunctionTree) : Type 0 where
 abbrev pub AreFunctions : ModuleTree → List FunctionTree → Type 0
 AreFunctions m [] = Unit {0}
 AreFunctions m (f ∷ fs) = IsFunction m f × AreFunctions m fs
-
-abbrev pub is_same : List ℕ → List ℕ → Bool
-is_same x y = pointwise nat_eq x y
-
--- no name stands twice
-abbrev pub are_distinct : List (List ℕ) → Bool
-are_distinct [] = true
-are_distinct (x ∷ xs) = not (list_any (is_same x) xs) && are_distinct xs
 
 -- Imports and uses --------------------------------------------------------------------------
 

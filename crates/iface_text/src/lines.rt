@@ -8,7 +8,7 @@ ghost use Rattle.iface_text.specs.Lines.{other_than, Lacks, module_line_name, ro
 
 use crate::interface::{Row, RowKind};
 use built_table::Ty;
-use scheme_data::{List, OutOfMemory, Text};
+use scheme_data::{List, OutOfMemory, Text, is_symbol_byte};
 use std::alloc::Global;
 
 /// What stands before the first place of a byte, and what follows it.
@@ -52,36 +52,10 @@ pub fn cut_at(bytes: &[u8], byte: u8) -> Option<Cut<'_>>
     })
 }
 
-fn is_symbol(b: u8) -> bool
-    ensures { result ≡ is_symbol_byte b }
-{
-    b.is_ascii_alphanumeric()
-        || matches!(
-            b,
-            b'!' | b'$'
-                | b'%'
-                | b'&'
-                | b'*'
-                | b'/'
-                | b':'
-                | b'<'
-                | b'='
-                | b'>'
-                | b'?'
-                | b'^'
-                | b'_'
-                | b'~'
-                | b'+'
-                | b'-'
-                | b'.'
-                | b'@'
-        )
-}
-
 fn are_symbols(bytes: &[u8]) -> bool
     ensures { result ≡ list_all is_symbol_byte bytes.now }
 {
-    bytes.iter().all(|b| is_symbol(*b))
+    bytes.iter().all(|b| is_symbol_byte(*b))
 }
 
 /// Whether the bytes are a name.

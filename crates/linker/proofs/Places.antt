@@ -7,10 +7,11 @@ use Rattle.std.proofs.lemmas.List.{length-map}
 use Rattle.std.specs.List.{list_all, find, position_or_len}
 use Rattle.std.specs.Option.{option_map, option_and_then}
 use Rattle.std.specs.Cmp.Lexicographic.{pointwise}
+use Rattle.scheme_data.specs.Names.{is_same}
 use Rattle.name_table.specs.Names.{place_of}
 use Rattle.core_tree.specs.declared.tree.ImportItem.{ImportItem}
 use Rattle.core_tree.specs.declared.tree.Use.{Use}
-use Rattle.core_tree.specs.WellFormed.{is_same, module_of, row_of}
+use Rattle.core_tree.specs.WellFormed.{module_of, row_of}
 use Rattle.iface_text.specs.declared.interface.Row.{Row}
 use Rattle.meaning.specs.Order.{onto_numbers, numbers_of, imports_of}
 use Rattle.object_text.specs.Format.{ObjectTree}

@@ -1,14 +1,11 @@
 -- The joined program has right names where the units have.
-use Rattle.std.proofs.Common.{◌≡◌, ℕ, zero, suc, ◌<◌, true, arith, List, [], ◌∷◌, ◌++◌, map, slice_get, IsTrue, Option, Some, None, refl, ap, ap₂, sym, ◌∙◌, subst}
+use Rattle.std.proofs.Common.{◌≡◌, ℕ, zero, suc, List, [], ◌∷◌, ◌++◌, map, slice_get, IsTrue, Option, Some, None, refl, ap, ap₂, sym, ◌∙◌, subst}
 use Rattle.std.proofs.lemmas.List.{map-append, append_assoc}
-use Rattle.std.specs.List.{flat_map, list_all}
-use Rattle.std.proofs.lemmas.Bool.{and_parts}
-use Rattle.std.proofs.lemmas.Bool.Decides.{nat_tests}
-use Rattle.scheme_data.specs.Symbols.{is_symbol_byte}
+use Rattle.std.specs.List.{flat_map}
 use Rattle.c_tree.specs.declared.function.CItem.{CItem}
 use Rattle.c_tree.specs.declared.pieces.Piece.{Piece}
 use Rattle.c_tree.specs.declared.pieces.Piece.TheVariants as piece
-use Rattle.c_tree.proofs.NameShapes.{AreBytes, maker_name-is_function_name, initializer_name-is_function_name}
+use Rattle.c_tree.proofs.CNames.{named_maker, named_initializer}
 use Rattle.c_tree.specs.Code.{Code, done, Item}
 use Rattle.c_tree.specs.Functions.{item_of, items_of}
 use Rattle.c_tree.specs.Names.{is_function_name, is_local_name, maker_name, initializer_name}
@@ -17,10 +14,10 @@ use Rattle.c_tree.specs.Spelling.{NamedItem, NamedItems, NamedCode}
 use Rattle.meaning.specs.Order.{onto_chosen, chosen}
 use Rattle.object_text.specs.Format.{ObjectTree, CanBeWritten}
 use Rattle.object_text.specs.Parts.{AllAre}
-use Rattle.plan_rules.specs.Joined.{Part, call_alone, calls_alone, call_main, main_code, main_function}
+use Rattle.plan_rules.specs.Joined.{Part, call_alone, calls_alone, call_main, main_code, main_function, joined_with}
 use Rattle.linker.specs.declared.joining.NamedUnit.{NamedUnit}
 use Rattle.linker.specs.Links.{part_of}
-use Rattle.linker.specs.Modules.{unit_part, unit_names, joined_with, NamedPart}
+use Rattle.linker.specs.Modules.{unit_part, unit_names, NamedPart}
 
 -- Names -------------------------------------------------------------------------------------
 
@@ -43,21 +40,13 @@ named_run : (f : List ℕ) → IsTrue (is_function_name f) → NamedCode (call_m
 unfolding is_local_name
 named_run f h = (refl, (tt, tt), (refl, (h, (refl, tt)), ((tt, (refl, tt)), tt)))
 
-symbols_are_bytes : (bs : List ℕ) → list_all is_symbol_byte bs ≡ true → AreBytes bs
-symbols_are_bytes [] e i = omega arith
-symbols_are_bytes (b ∷ bs) e zero = small (and_parts (is_symbol_byte b) (list_all is_symbol_byte bs) e).0
-  where
-    small : is_symbol_byte b ≡ true → b < 256
-    small h = grind (arith, nat_tests)
-symbols_are_bytes (b ∷ bs) e (suc i) = symbols_are_bytes bs (and_parts (is_symbol_byte b) (list_all is_symbol_byte bs) e).1 i
-
 named_makers : (ps : List Part) → AllAre NamedPart ps → AllAre NamedFunction (map maker_name (map (λ p. p.module_name) ps))
 named_makers [] are = tt
-named_makers (p ∷ ps) are = (maker_name-is_function_name p.module_name are.0.module_name.some (symbols_are_bytes p.module_name are.0.module_name.bytes), named_makers ps are.1)
+named_makers (p ∷ ps) are = (named_maker p.module_name are.0.module_name, named_makers ps are.1)
 
 named_initializers : (ps : List Part) → AllAre NamedPart ps → AllAre NamedFunction (map initializer_name (map (λ p. p.module_name) ps))
 named_initializers [] are = tt
-named_initializers (p ∷ ps) are = (initializer_name-is_function_name p.module_name are.0.module_name.some (symbols_are_bytes p.module_name are.0.module_name.bytes), named_initializers ps are.1)
+named_initializers (p ∷ ps) are = (named_initializer p.module_name are.0.module_name, named_initializers ps are.1)
 
 main_named : (ms : List (List ℕ)) (f : List ℕ) → NamedCode (main_code ms f) → NamedItem (main_function ms f)
 unfolding is_function_name is_local_name

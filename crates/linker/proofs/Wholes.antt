@@ -11,11 +11,11 @@ use Rattle.c_tree.specs.Spelling.{CText}
 use Rattle.meaning.specs.Order.{Imports, IsOrder, chosen}
 use Rattle.object_text.specs.Format.{ObjectTree, CanBeWritten}
 use Rattle.object_text.specs.Parts.{AllAre}
-use Rattle.plan_rules.specs.Joined.{Part, joined}
+use Rattle.plan_rules.specs.Joined.{Part, joined, joined_with}
 use Rattle.linker.specs.declared.indexed.Indexed.{Indexed}
 use Rattle.linker.specs.declared.joining.NamedUnit.{NamedUnit}
 use Rattle.linker.specs.Links.{link_refusal, imports_in, part_of}
-use Rattle.linker.specs.Modules.{tree_of, trees, unit_part, joined_with, AreApart, IsMain, IsProgram, NamedPart}
+use Rattle.linker.specs.Modules.{tree_of, trees, unit_part, AreApart, IsMain, IsProgram, NamedPart}
 use Rattle.linker.proofs.Visited.{are_below, order_apart, order_below, root_among}
 use Rattle.linker.proofs.Places.{length_imports, imports_within}
 use Rattle.linker.proofs.Chosen.{main_chosen}

@@ -1,6 +1,7 @@
 -- Which objects are linked, and to what; which are refused, and for what.
 use Rattle.std.specs.Prelude.{◌≡◌, ◌⊎◌, ℕ, suc, List, [], ◌∷◌, map, find, filter, length, nat_eq, nat_lt, Bool, true, false, not, ◌&&◌, if◌then◌else◌, Option, Some, None, Result, Ok, Err}
 use Rattle.std.specs.List.{list_all}
+use Rattle.scheme_data.specs.Names.{are_distinct, is_same}
 use Rattle.built_table.specs.declared.primitives.Ty.{Ty}
 use Rattle.built_table.specs.declared.primitives.Ty.TheVariants.{Obj, Long, Bool as Truth}
 use Rattle.name_table.specs.Names.{has_name}
@@ -10,7 +11,7 @@ use Rattle.iface_text.specs.declared.interface.RowKind.TheVariants.{Fun}
 use Rattle.core_tree.specs.declared.tree.ImportItem.{ImportItem}
 use Rattle.core_tree.specs.declared.tree.Use.{Use}
 use Rattle.core_tree.specs.Tree.{Callee}
-use Rattle.core_tree.specs.WellFormed.{is_same, are_distinct, module_of, row_of}
+use Rattle.core_tree.specs.WellFormed.{module_of, row_of}
 use Rattle.meaning.specs.Order.{Imports, imports_of, IsOrder, has_some, root_of, chosen}
 use Rattle.meaning.specs.Program.{main_in}
 use Rattle.c_tree.specs.Spelling.{CText}

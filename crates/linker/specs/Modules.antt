@@ -1,15 +1,13 @@
 -- Objects that are read and the units that are joined, seen as plain trees, and what is known of them on the way.
-use Rattle.std.specs.Prelude.{◌≡◌, ℕ, List, [], ◌∷◌, ◌++◌, map, slice_get, false, IsTrue, Some, None, Result, Ok, Err}
-use Rattle.std.specs.List.{flat_map}
+use Rattle.std.specs.Prelude.{◌≡◌, ℕ, List, [], ◌∷◌, map, slice_get, false, IsTrue, Some, None, Result, Ok, Err}
 use Rattle.scheme_data.specs.Symbols.{IsName}
 use Rattle.iface_text.specs.declared.interface.Row.{Row}
-use Rattle.c_tree.specs.Code.{Item}
 use Rattle.c_tree.specs.Functions.{items_of}
 use Rattle.c_tree.specs.Names.{is_function_name, function_name}
 use Rattle.c_tree.specs.Spelling.{CText, NamedItems}
 use Rattle.core_tree.specs.Tree.{Callee}
 use Rattle.meaning.specs.Order.{IsOrder, is_marked, root_of, chosen}
-use Rattle.plan_rules.specs.Joined.{Part, main_function, joined}
+use Rattle.plan_rules.specs.Joined.{Part, joined}
 use Rattle.object_text.specs.Format.{ObjectTree, ObjectText, object_tree}
 use Rattle.linker.specs.declared.indexed.Indexed.{Indexed}
 use Rattle.linker.specs.declared.joining.NamedUnit.{NamedUnit}
@@ -66,10 +64,6 @@ unit_names units = map (λ u. u.module_name) units
 pub record NamedPart (p : Part) : Type 0 where
   pub module_name : IsName p.module_name
   pub items : NamedItems p.items
-
--- the program of these parts with a main function of this name
-abbrev pub joined_with : List Part → List ℕ → List Item
-joined_with parts function = flat_map (λ p. p.items) parts ++ main_function (map (λ p. p.module_name) parts) function ∷ []
 
 -- Links -------------------------------------------------------------------------------------
 

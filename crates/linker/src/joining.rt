@@ -10,8 +10,8 @@ ghost use Rattle.c_tree.specs.Code.{done};
 ghost use Rattle.c_tree.specs.declared.tree.CTy.TheVariants.{Obj as ObjTy};
 ghost use Rattle.object_text.specs.Parts.{AllAre};
 ghost use Rattle.plan_rules.specs.Representation.{local};
-ghost use Rattle.plan_rules.specs.Joined.{first_local, second_local, calls_alone, call_main, main_code, main_function};
-ghost use Rattle.linker.specs.Modules.{unit_part, unit_names, joined_with, NamedPart};
+ghost use Rattle.plan_rules.specs.Joined.{first_local, second_local, calls_alone, call_main, main_code, main_function, joined_with};
+ghost use Rattle.linker.specs.Modules.{unit_part, unit_names, NamedPart};
 
 use c_tree::{
     CArg, CAtom, CCall, CExpr, CFun, CItem, CProgram, CTy, CVar, Callee, Layout, Op, Piece,

@@ -1,7 +1,8 @@
 // The modules of a link, found by their names.
 ghost use Rattle.std.specs.Prelude.{◌≡◌, ℕ, List, true, false, [], ◌∷◌, ◌++◌, map, IfOk, OnOk, IfSome, IfNone};
 ghost use Rattle.std.specs.Option.{option_copied};
-ghost use Rattle.core_tree.specs.WellFormed.{are_distinct, module_of, row_of};
+ghost use Rattle.scheme_data.specs.Names.{are_distinct};
+ghost use Rattle.core_tree.specs.WellFormed.{module_of, row_of};
 ghost use Rattle.meaning.specs.Order.{numbers_of};
 ghost use Rattle.linker.specs.Links.{names_of, are_modules, current_row, imports_in};
 ghost use Rattle.linker.specs.Modules.{tree_of, trees};

@@ -1,7 +1,7 @@
 -- The functions of a program, which is its modules in the order in which they are initialised. A call names a function by its module and its name.
 use Rattle.std.specs.Prelude.{ℕ, List, find, length, nat_eq, Bool, false, Option, Some, None}
+use Rattle.scheme_data.specs.Names.{is_same}
 use Rattle.core_tree.specs.Tree.{FunctionTree, ModuleTree, Callee, function_named}
-use Rattle.core_tree.specs.WellFormed.{is_same}
 
 -- a function, and the module in which it is defined
 pub record Procedure : Type 0 where

@@ -1,11 +1,12 @@
 -- What a program prints, and how it ends.
 use Rattle.std.specs.Prelude.{◌≡◌, ℕ, suc, List, [], ◌∷◌, map, nat_lt, pos, negsuc, Bool, IsTrue, Option, Some, None, if◌then◌else◌}
 use Rattle.std.specs.List.{list_all, flat_map}
+use Rattle.scheme_data.specs.Names.{are_distinct}
 use Rattle.base_io.specs.Observation.{Observation}
 use Rattle.base_io.specs.declared.end.End.TheVariants.{Ended, Raised, Spent}
 use Rattle.core_tree.specs.declared.tree.VarId.{VarId}
 use Rattle.core_tree.specs.Tree.{FunctionTree, ModuleTree, Callee, used_callees}
-use Rattle.core_tree.specs.WellFormed.{are_distinct, IsWellFormed}
+use Rattle.core_tree.specs.WellFormed.{IsWellFormed}
 use Rattle.meaning.specs.Value.{Value, Fixnum, Boolean, Empty, Unspecified, Object, Closure, State, Outcome, Gives, Escapes, Raises, Spends, bind}
 use Rattle.meaning.specs.Procedures.{Procedure, procedure_of, is_there}
 use Rattle.meaning.specs.Evaluation.{Lower, called, ev_last, run}

@@ -1,7 +1,8 @@
 -- The head of a module, `(module NAME clause ...)` (the Bigloo manual, "Modules"). A clause is `(main f)`, at most once, `(import (name ... MODULE) ...)` or `(export (f x ...) ...)`.
-use Rattle.std.specs.Prelude.{ℕ, List, [], ◌∷◌, ◌++◌, map, codes, nat_eq, length, Bool, true, false, not, ◌&&◌, ◌||◌, if◌then◌else◌, Option, Some, None}
+use Rattle.std.specs.Prelude.{ℕ, List, [], ◌∷◌, ◌++◌, map, codes, nat_eq, length, Bool, false, not, ◌&&◌, ◌||◌, if◌then◌else◌, Option, Some, None}
 use Rattle.std.specs.List.{list_any}
 use Rattle.std.specs.Cmp.Lexicographic.{pointwise}
+use Rattle.scheme_data.specs.Names.{are_distinct}
 use Rattle.scheme_data.specs.Data.{Plain, Symbol, Listed, Plains, none, more}
 
 abbrev pub is_word : List ℕ → List ℕ → Bool
@@ -26,11 +27,6 @@ begins_type (b ∷ c ∷ bs) = nat_eq b 58 && nat_eq c 58
 abbrev pub has_type : List ℕ → Bool
 has_type [] = false
 has_type (b ∷ bs) = begins_type (b ∷ bs) || has_type bs
-
--- no name stands twice
-abbrev pub are_distinct : List (List ℕ) → Bool
-are_distinct [] = true
-are_distinct (x ∷ xs) = not (list_any (is_word x) xs) && are_distinct xs
 
 -- a module, and names that are imported from it, at least one
 pub record ImportTree : Type 0 where

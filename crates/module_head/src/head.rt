@@ -1,7 +1,8 @@
 ghost use Rattle.std.specs.Prelude.{◌≡◌, [], None, IfOk, map};
 ghost use Rattle.std.specs.Option.{option_map};
+ghost use Rattle.scheme_data.specs.Names.{are_distinct};
 ghost use Rattle.scheme_data.specs.Data.{plain, plain_all};
-ghost use Rattle.module_head.specs.Heads.{clauses, imports_itself, are_distinct, exported_names, is_right, head_of};
+ghost use Rattle.module_head.specs.Heads.{clauses, imports_itself, exported_names, is_right, head_of};
 ghost use Rattle.module_head.specs.Trees.{export_tree, head_tree};
 
 use crate::shapes::{is_symbol, name_is, parts, untyped_name};

@@ -1,9 +1,6 @@
 -- The line of a row.
-use Rattle.std.proofs.Common.{◌≡◌, ◌≢◌, ℕ, zero, suc, ◌*◌, List, [], ◌∷◌, ◌++◌, length, replicate, Bool, true, false, IsTrue, refl, ap, sym, ◌∙◌, subst, append_assoc, arith, nat_eq}
+use Rattle.std.proofs.Common.{◌≡◌, ℕ, zero, suc, ◌*◌, List, [], ◌∷◌, ◌++◌, length, replicate, refl, ap, sym, ◌∙◌, subst, append_assoc, arith}
 use Rattle.std.specs.Prelude.{codes}
-use Rattle.std.specs.List.{list_all}
-use Rattle.std.proofs.lemmas.Bool.{and_parts, not-true}
-use Rattle.std.proofs.lemmas.Bool.Decides.{Decides-eqb}
 use Rattle.std.proofs.lemmas.List.{append_cancel_left, append_cancel_right}
 use Rattle.scheme_data.specs.Symbols.{is_symbol_byte, IsName}
 use Rattle.built_table.specs.declared.primitives.Ty.{Ty}
@@ -12,56 +9,12 @@ use Rattle.iface_text.specs.declared.interface.Row.{Row}
 use Rattle.iface_text.specs.declared.interface.RowKind.{RowKind}
 use Rattle.iface_text.specs.declared.interface.RowKind.TheVariants.{Fun}
 use Rattle.iface_text.specs.Format.{more_types, types_text, kind_text, row_line, AreUntyped, IsUntyped}
-use Rattle.iface_text.specs.Lines.{other_than, Lacks, untyped_row, NoRow}
+use Rattle.iface_text.proofs.Bytes.{passes_other, lacks_append, cut_once}
+use Rattle.iface_text.specs.Lines.{Lacks, untyped_row, NoRow}
 use Rattle.object_text.specs.Header.{row_text, IsUntypedRow}
 use Rattle.object_text.specs.Parts.{NoFirst, Anything}
 use Rattle.object_text.proofs.Cuts.{named_once}
 use Rattle.object_text.proofs.Runs.{Once}
-
--- One byte ----------------------------------------------------------------------------------
-
-other_by : (c x : ℕ) (v : Bool) → nat_eq x c ≡ v → x ≢ c → other_than c x ≡ true
-other_by c x false e apart = rw e refl
-other_by c x true e apart = absurd (apart ((Decides-eqb x c).0 e))
-
-apart_from : (c x : ℕ) → other_than c x ≡ true → x ≢ c
-apart_from c x h e = let t : nat_eq x c ≡ true = (Decides-eqb x c).1 e in let f : nat_eq x c ≡ false = not-true (nat_eq x c) h in absurd (cc)
-
--- a byte that fails a test isn't among bytes that pass it
-passes_other : (p : ℕ → Bool) (c : ℕ) → p c ≡ false → (xs : List ℕ) → IsTrue (list_all p xs) → Lacks c xs
-passes_other p c fails [] h = refl
-passes_other p c fails (x ∷ xs) h =
-    let k = and_parts (p x) (list_all p xs) h in
-    let e : x ≢ c = λ (q : x ≡ c). let y : p x ≡ true = k.0 in let z : p x ≡ false = ap p q ∙ fails in absurd (cc) in
-    rw (other_by c x (nat_eq x c) refl e) (passes_other p c fails xs k.1)
-
-lacks_append : (c : ℕ) (xs ys : List ℕ) → Lacks c xs → Lacks c ys → Lacks c (xs ++ ys)
-lacks_append c [] ys h k = k
-lacks_append c (x ∷ xs) ys h k =
-    let p = and_parts (other_than c x) (list_all (other_than c) xs) h in
-    rw p.0 (lacks_append c xs ys p.1 k)
-
-record SameCut (xs us ys vs : List ℕ) : Type 0 where
-  before : xs ≡ ys
-  after : us ≡ vs
-
--- a list is cut in one way where the byte stands first
-cut_once : (c : ℕ) (xs us ys vs : List ℕ) → Lacks c xs → Lacks c ys → xs ++ c ∷ us ≡ ys ++ c ∷ vs → SameCut xs us ys vs
-cut_once c [] us [] vs h k e = record { before = refl; after = cc }
-cut_once c [] us (y ∷ ys) vs h k e =
-    let p = and_parts (other_than c y) (list_all (other_than c) ys) k in
-    let q : y ≡ c = cc in absurd (apart_from c y p.0 q)
-cut_once c (x ∷ xs) us [] vs h k e =
-    let p = and_parts (other_than c x) (list_all (other_than c) xs) h in
-    let q : x ≡ c = cc in absurd (apart_from c x p.0 q)
-cut_once c (x ∷ xs) us (y ∷ ys) vs h k e =
-    let p = and_parts (other_than c x) (list_all (other_than c) xs) h in
-    let q = and_parts (other_than c y) (list_all (other_than c) ys) k in
-    let t : xs ++ c ∷ us ≡ ys ++ c ∷ vs = cc in
-    let i = cut_once c xs us ys vs p.1 q.1 t in
-    let z : x ≡ y = cc in
-    let w : xs ≡ ys = i.before in
-    record { before = cc; after = i.after }
 
 -- Untyped rows ------------------------------------------------------------------------------
 

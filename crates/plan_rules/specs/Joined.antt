@@ -51,6 +51,9 @@ pub record Part : Type 0 where
   pub module_name : List ℕ
   pub items : List Item
 
--- the program of these units, in the order in which their modules are initialised, with this main function
+-- the program of these units, in the order in which their modules are initialised, with the main function that has this name in C
+abbrev pub joined_with : List Part → List ℕ → List Item
+joined_with parts f = flat_map (λ p. p.items) parts ++ main_function (map (λ p. p.module_name) parts) f ∷ []
+
 unfoldable pub joined : List Part → Callee → List Item
-joined parts main = flat_map (λ p. p.items) parts ++ main_function (map (λ p. p.module_name) parts) (c_name_of main) ∷ []
+joined parts main = joined_with parts (c_name_of main)

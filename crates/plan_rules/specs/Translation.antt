@@ -1,6 +1,7 @@
 -- The relation between a module and a unit. Which locals are temporaries, and their names, are free.
 -- A node is related to the code and the code after it.
 use Rattle.std.specs.Prelude.{◌≡◌, ◌⊎◌, ℕ, List, [], ◌∷◌, ◌++◌, map, replicate, pos, IsTrue, nat_eq, Bool, true, false, ◌&&◌, Option, Some, None, Contains}
+use Rattle.scheme_data.specs.Names.{are_distinct}
 use Rattle.built_table.specs.declared.primitives.Ty.{Ty}
 use Rattle.built_table.specs.declared.primitives.Ty.TheVariants as ty
 use Rattle.built_table.specs.Table.{params_of, result_of}
@@ -19,7 +20,7 @@ use Rattle.c_tree.specs.declared.tree.CVar.{CVar}
 use Rattle.c_tree.specs.Code.{Code, done, assign, call, return, test, loop, Fun, Item, declared, defined}
 use Rattle.c_tree.specs.Names.{function_name, maker_name, initializer_name}
 use Rattle.c_tree.specs.Spelling.{NamedItems}
-use Rattle.c_meaning.specs.Checked.{is_typed, variable_named, variables_of, are_distinct, defined_names, items_fit}
+use Rattle.c_meaning.specs.Checked.{is_typed, variable_named, variables_of, defined_names, items_fit}
 use Rattle.plan_rules.specs.declared.rep.Rep.{Rep}
 use Rattle.plan_rules.specs.declared.rep.Rep.TheVariants.{Obj, Long, Bool as Truth_rep}
 use Rattle.plan_rules.specs.Representation.{Slot, PlainAt, Scope, slot_of, rep_of, c_type_of, has_of, operation, raise_count, raise_type, call_of, local, constant_expr, condition, Step, Keep, Make, Refuse, Unbuilt, step}

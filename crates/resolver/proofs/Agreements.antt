@@ -4,8 +4,8 @@ use Rattle.std.proofs.lemmas.List.{length-map}
 use Rattle.std.proofs.lemmas.Bool.Decides.{nat_tests}
 use Rattle.std.specs.List.{position_or_len}
 use Rattle.std.specs.Cmp.Lexicographic.{pointwise, nat_list_eq_equiv}
+use Rattle.scheme_data.specs.Names.{are_distinct}
 use Rattle.name_table.specs.Names.{place_of}
-use Rattle.module_head.specs.Heads.{are_distinct}
 use Rattle.resolver.specs.Drafts.{Definition, function_names, definition_named, takes_as_many}
 use Rattle.resolver.specs.Parts.{param_counts, distinct}
 

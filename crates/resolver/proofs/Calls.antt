@@ -13,7 +13,8 @@ use Rattle.module_head.specs.Heads.{symbol_of}
 use Rattle.resolver.specs.Drafts.{Scope, Operator, count, operator, branched, applied, onto, expression, expressions, non_empty}
 use Rattle.resolver.specs.Parts.{node_trees}
 use Rattle.resolver.proofs.Lists.{rest_is}
-use Rattle.resolver.proofs.Layers.{plain_list, tree_if, tree_sequence}
+use Rattle.module_head.proofs.Layers.{plain_list}
+use Rattle.resolver.proofs.Layers.{tree_if, tree_sequence}
 
 -- `args` of `[first, args @ ..]`
 abbrev pub rest_of : List Datum → List Datum

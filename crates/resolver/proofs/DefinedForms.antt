@@ -17,7 +17,7 @@ use Rattle.resolver.specs.declared.tops.TopForm.{TopForm}
 use Rattle.resolver.specs.Drafts.{body, onto, expression, expressions, names, named, prototype, definition, Defines, Evaluates, top_form, onto_tops, tops, definitions_in, evaluated_in, defined, onto_functions, functions, top_scope, draft_with, draft_in}
 use Rattle.resolver.specs.Drafts as drafts
 use Rattle.resolver.specs.Parts.{definition_of, top_of, numbered_from, param_count, function_at, Builds}
-use Rattle.resolver.proofs.Layers.{listed_is}
+use Rattle.module_head.proofs.Layers.{listed_is}
 use Rattle.resolver.proofs.Calls.{ahead as ahead_of, ahead_none, ahead_all}
 use Rattle.resolver.proofs.Lists.{ahead, top_more, function_more}
 use Rattle.resolver.proofs.Numbers.{variables_are}

@@ -16,7 +16,7 @@ use Rattle.resolver.specs.Names.{is_special}
 use Rattle.resolver.specs.Drafts.{Defines, Evaluates, imported_names, outside_name, outside_in, outside_in_all, outside_in_tops, with_first}
 use Rattle.resolver.specs.Drafts as drafts
 use Rattle.resolver.specs.Parts.{top_of, outside_in_top}
-use Rattle.resolver.proofs.Layers.{plain_list}
+use Rattle.module_head.proofs.Layers.{plain_list}
 use Rattle.resolver.proofs.Lists.{rest_is}
 use Rattle.resolver.proofs.Calls.{rest_of}
 

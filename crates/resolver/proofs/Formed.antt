@@ -9,7 +9,7 @@ use Rattle.core_tree.specs.WellFormed.{AreFunctions, IsMain, IsWellFormed}
 use Rattle.core_tree.specs.WellFormed as formed
 use Rattle.resolver.specs.Drafts.{count, expressions, Definition, functions, top_scope, function_names, has_main, Draft, draft, interface_of, exported, exported_rows}
 use Rattle.resolver.specs.Elaboration.{AreSpelled, uses, import_item, module_with, completed, elaborated}
-use Rattle.resolver.proofs.FormedParts.{Holds, at_value, same_distinct}
+use Rattle.resolver.proofs.FormedParts.{Holds, at_value}
 use Rattle.resolver.proofs.FormedExpressions.{AreArguments, expressions_formed}
 use Rattle.resolver.proofs.FormedDrafts.{AreOf, functions_formed, functions_of, names_of, take_as_many, IsDraft, draft_formed}
 use Rattle.resolver.proofs.FormedRows.{export_rows, exports_there}
@@ -36,7 +36,7 @@ with_uses d (Some us) p t =
       forms =
           (at_value (AreArguments m [] (count p.evaluated)) (expressions (top_scope all d.outside) p.evaluated) d.forms p.forms
           (expressions_formed (top_scope all d.outside) m many t.called p.evaluated p.proper)).each;
-      distinct = ap formed.are_distinct same ∙ sym (same_distinct all) ∙ p.distinct;
+      distinct = ap are_distinct same ∙ p.distinct;
       uses = uses_formed m d.head.imports us refl p.head.foreign t.given;
       once = t.once;
       ordered = t.ordered;

@@ -2,11 +2,12 @@
 use Rattle.std.proofs.Common.{◌≡◌, ℕ, ◌+◌, ◌<◌, Bool, true, false, not, ◌&&◌, if◌then◌else◌, nat_eq, codes, List, [], ◌∷◌, ◌++◌, map, length, slice_get, Option, Some, None, refl, sym, ap, ◌∙◌, arith}
 use Rattle.std.specs.List.{list_any, list_all}
 use Rattle.std.proofs.lemmas.Bool.{and_parts}
+use Rattle.scheme_data.specs.Names.{are_distinct}
 use Rattle.scheme_data.specs.Data.{Plain, Number, Character, Truth, Unspecified, String, Symbol, Listed, Dotted, Vector, Plains, none, more, IsProper, AreProper}
 use Rattle.scheme_data.specs.Symbols.{IsName}
 use Rattle.name_table.specs.Names.{has_name}
-use Rattle.module_head.specs.Heads.{HeadTree, is_word, symbol_of, says, are_distinct, head_of}
-use Rattle.module_head.proofs.Exported.{added}
+use Rattle.module_head.specs.Heads.{HeadTree, is_word, symbol_of, says, head_of}
+use Rattle.scheme_data.proofs.DistinctNames.{added}
 use Rattle.core_tree.specs.Tree.{Tree, Trees, FunctionTree, ModuleTree, function_named, found_use}
 use Rattle.core_tree.specs.WellFormed.{IsFound, IsBody, IsFunction, AreFunctions}
 use Rattle.core_tree.specs.WellFormed as formed

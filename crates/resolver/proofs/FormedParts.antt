@@ -2,10 +2,11 @@
 use Rattle.std.proofs.Common.{◌≡◌, ℕ, Bool, true, false, not, ◌&&◌, if◌then◌else◌, List, [], ◌∷◌, ◌++◌, Option, Some, None, refl, ap, subst}
 use Rattle.std.specs.List.{list_any}
 use Rattle.std.specs.Cmp.Lexicographic.{bytes_decides, nat_list_eq_equiv}
+use Rattle.scheme_data.specs.Names.{are_distinct}
 use Rattle.name_table.specs.Names.{has_name}
-use Rattle.module_head.specs.Heads.{is_word, are_distinct}
+use Rattle.module_head.specs.Heads.{is_word}
 use Rattle.core_tree.specs.WellFormed as formed
-use Rattle.module_head.proofs.Exported.{twice}
+use Rattle.scheme_data.proofs.DistinctNames.{twice}
 
 -- what holds of the value, where there is one
 abbrev pub Holds : {A : Type 0} → (A → Type 0) → Option A → Type 0
@@ -29,10 +30,6 @@ itself x = (bytes_decides x x).1 refl
 
 pub turned : (x y : List ℕ) → is_word x y ≡ is_word y x
 turned x y = nat_list_eq_equiv.symm x y
-
-pub same_distinct : (xs : List (List ℕ)) → are_distinct xs ≡ formed.are_distinct xs
-same_distinct [] = refl
-same_distinct (x ∷ xs) = ap (λ b. not (list_any (is_word x) xs) && b) (same_distinct xs)
 
 -- of distinct names none stands before itself
 pub not_before : (xs : List (List ℕ)) (x : List ℕ) (ys : List (List ℕ)) → are_distinct (xs ++ x ∷ ys) ≡ true → has_name xs x ≡ false

@@ -3,13 +3,14 @@ use Rattle.std.proofs.Common.{◌≡◌, ℕ, zero, suc, Bool, true, false, if�
 use Rattle.std.specs.List.{list_all}
 use Rattle.std.proofs.lemmas.Bool.{and_parts, and_from}
 use Rattle.std.proofs.lemmas.List.{length-replicate}
+use Rattle.scheme_data.specs.Names.{are_distinct}
 use Rattle.scheme_data.specs.Symbols.{IsName}
 use Rattle.built_table.specs.declared.primitives.Ty.TheVariants.{Obj}
 use Rattle.name_table.specs.Names.{has_name}
 use Rattle.iface_text.specs.declared.interface.Row.{Row}
 use Rattle.iface_text.specs.Format.{IfaceTree, AreUntyped, IsUntyped, AreRows, HasSpelling}
 use Rattle.iface_text.specs.Lines.{untyped_row}
-use Rattle.module_head.specs.Heads.{ExportTree, is_word, are_distinct, exported_names}
+use Rattle.module_head.specs.Heads.{ExportTree, is_word, exported_names}
 use Rattle.core_tree.specs.Tree.{ModuleTree, function_named}
 use Rattle.core_tree.specs.WellFormed.{is_exported}
 use Rattle.core_tree.specs.WellFormed as formed

@@ -4,15 +4,16 @@ use Rattle.std.proofs.lemmas.Bool.{not-true, and_parts, and_from, and_right, or_
 use Rattle.std.proofs.lemmas.List.{append-nil}
 use Rattle.std.proofs.lemmas.List.Folds.{list_any-append}
 use Rattle.std.specs.List.{list_any, list_all}
+use Rattle.scheme_data.specs.Names.{are_distinct, is_same}
 use Rattle.scheme_data.specs.Symbols.{IsName}
 use Rattle.name_table.specs.Names.{has_name}
 use Rattle.iface_text.specs.declared.interface.Row.{Row}
 use Rattle.iface_text.specs.Format.{IfaceTree, IsUntyped}
-use Rattle.module_head.specs.Heads.{ImportTree, is_word, are_distinct}
+use Rattle.module_head.specs.Heads.{ImportTree, is_word}
 use Rattle.core_tree.specs.declared.tree.Use.{Use}
 use Rattle.core_tree.specs.declared.tree.Use.TheVariants.{From, Need}
 use Rattle.core_tree.specs.Tree.{ModuleTree, found_use}
-use Rattle.core_tree.specs.WellFormed.{IsFound, AreImports, is_same, module_of, row_of, takes, AreUses, same_use, each_once, is_need, are_ordered}
+use Rattle.core_tree.specs.WellFormed.{IsFound, AreImports, module_of, row_of, takes, AreUses, same_use, each_once, is_need, are_ordered}
 use Rattle.resolver.specs.Elaboration.{AreSpelled, row_for, onto, both, from, need, from_item, offered, calls, item_needs, needs, with_first_uses, each_use_once, import_item}
 use Rattle.resolver.proofs.FormedParts.{Holds, word_is, itself, turned}
 use Rattle.resolver.proofs.FormedHeads.{AreItems}

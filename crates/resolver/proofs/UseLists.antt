@@ -8,13 +8,14 @@ use Rattle.std.specs.Option.{option_map, option_and_then, option_copied}
 use Rattle.std.proofs.lemmas.List.{take_more, map-append}
 use Rattle.std.proofs.lemmas.List.Folds.{list_any-append}
 use Rattle.std.proofs.lemmas.Option.{get_or_from_slice_get, slice_get_within}
+use Rattle.scheme_data.specs.Names.{is_same}
 use Rattle.name_table.specs.Names.{has_name}
 use Rattle.iface_text.specs.declared.interface.Row.{Row}
 use Rattle.iface_text.specs.Format.{IfaceTree}
 use Rattle.module_head.specs.Heads.{ImportTree, is_word}
 use Rattle.core_tree.specs.declared.tree.Use.{Use}
 use Rattle.core_tree.specs.declared.tree.Use.TheVariants.{From, Need}
-use Rattle.core_tree.specs.WellFormed.{is_same, module_of, row_of, same_use}
+use Rattle.core_tree.specs.WellFormed.{module_of, row_of, same_use}
 use Rattle.resolver.specs.Elaboration.{onto, both, from, need, from_item, row_for, offered, calls, item_needs, needs, with_first_uses, each_use_once}
 use Rattle.resolver.specs.UseTables.{Key, is_key, OfferSameRows, module_at, HasModules, TakesItem}
 use Rattle.resolver.specs.TakenRows.{use_of}

@@ -1,6 +1,7 @@
 -- What a source says by itself: its head, its definitions and its other forms, where each function of another module stands for its place among those that are called, in order of first use.
 use Rattle.std.specs.Prelude.{ℕ, suc, ◌+◌, List, [], ◌∷◌, ◌++◌, map, length, codes, nat_eq, Bool, true, false, not, ◌&&◌, if◌then◌else◌, Option, Some, None}
 use Rattle.std.specs.List.{list_all, list_any}
+use Rattle.scheme_data.specs.Names.{are_distinct}
 use Rattle.scheme_data.specs.Data.{Plain, Number, Truth, Symbol, Listed, Plains, none, more}
 use Rattle.built_table.specs.declared.primitives.Primitive.{Primitive as Builtin}
 use Rattle.built_table.specs.Table.{prim_named, params_of}
@@ -8,7 +9,7 @@ use Rattle.name_table.specs.Names.{has_name, place_of}
 use Rattle.iface_text.specs.declared.interface.Row.{Row}
 use Rattle.iface_text.specs.Format.{IfaceTree}
 use Rattle.iface_text.specs.Lines.{untyped_row}
-use Rattle.module_head.specs.Heads.{ImportTree, ExportTree, HeadTree, is_word, symbol_of, says, are_distinct, head_of}
+use Rattle.module_head.specs.Heads.{ImportTree, ExportTree, HeadTree, is_word, symbol_of, says, head_of}
 use Rattle.core_tree.specs.declared.tree.Const.TheVariants.{Int, Bool as Boolean}
 use Rattle.core_tree.specs.declared.tree.VarId.{VarId}
 use Rattle.core_tree.specs.declared.tree.GlobalRef.{GlobalRef}

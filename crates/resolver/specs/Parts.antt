@@ -1,7 +1,7 @@
 -- What the parts of the resolver give.
 use Rattle.std.specs.Prelude.{◌≡◌, ℕ, zero, suc, List, [], ◌∷◌, map, length, Option, Some, None, if◌then◌else◌}
+use Rattle.scheme_data.specs.Names.{are_distinct}
 use Rattle.scheme_data.specs.Data.{plain, plain_all}
-use Rattle.module_head.specs.Heads.{are_distinct}
 use Rattle.module_head.specs.declared.head.Head.{Head}
 use Rattle.module_head.specs.Trees.{head_tree}
 use Rattle.core_tree.specs.declared.tree.Node.{Node}

@@ -1,1 +1,2 @@
+pub mod DistinctNames
 pub mod NumberTexts

@@ -1,4 +1,5 @@
 pub mod Data
 pub mod Decimal
 pub mod Fixnum
+pub mod Names
 pub mod Symbols

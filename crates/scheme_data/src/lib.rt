@@ -6,6 +6,7 @@ mod fixnum;
 mod list;
 mod number;
 mod stack;
+mod symbol;
 mod text;
 
 pub use datum::{Datum, LimitKind, Place};
@@ -13,6 +14,7 @@ pub use fixnum::{box_long, is_in_range, is_long, unbox_long};
 pub use list::{CallList, List, TextList};
 pub use number::{NumberText, number_of_text, push_number};
 pub use stack::Stack;
+pub use symbol::{is_symbol_byte, symbol_len};
 pub use text::{OutOfMemory, Text};
 
 #[cfg(test)]

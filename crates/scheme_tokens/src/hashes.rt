@@ -2,10 +2,10 @@
 ghost use Rattle.std.specs.Prelude.{◌≡◌};
 ghost use Rattle.scheme_tokens.specs.Hashes.{constant_word, named_byte, character_word, character_lexeme, block_lexeme, hash_lexeme};
 
-use crate::bytes::word_len;
 use crate::comments::block_len;
 use crate::lex::Lexeme;
 use crate::token::{Atom, Word};
+use scheme_data::symbol_len;
 
 /// The constant that these bytes are after `#`.
 fn constant(name: &[u8]) -> Word
@@ -63,7 +63,7 @@ fn character_at(rest: &[u8]) -> Lexeme
     let [_, more @ ..] = rest else {
         return Lexeme::Token(Word::Bad, 0);
     };
-    let n = word_len(more);
+    let n = symbol_len(more);
     Lexeme::Token(character(&rest[..1 + n]), 2 + n)
 }
 
@@ -89,7 +89,7 @@ pub fn hash_at(rest: &[u8]) -> Lexeme
         b'|' => block_at(more),
         b'\\' => character_at(more),
         _ => {
-            let n = word_len(rest);
+            let n = symbol_len(rest);
             Lexeme::Token(constant(&rest[..n]), n)
         }
     }

@@ -1,13 +1,13 @@
 ghost use Rattle.std.specs.Prelude.{◌≡◌, IfOk};
 ghost use Rattle.scheme_tokens.specs.Lexemes.{lexeme, mark_word};
 
-use crate::bytes::{space, symbol_byte, word_len};
+use crate::bytes::space;
 use crate::comments::line_len;
 use crate::hashes::hash_at;
 use crate::strings::string_at;
 use crate::token::Word;
 use crate::words::read_word;
-use scheme_data::OutOfMemory;
+use scheme_data::{OutOfMemory, is_symbol_byte, symbol_len};
 use std::alloc::Global;
 
 /// What stands at the front of bytes, with the number of its bytes after the first: white space or a comment, or a token.
@@ -40,8 +40,8 @@ pub fn lexeme_at(alloc: Global, tail: &[u8]) -> Result<Lexeme, OutOfMemory>
     if space(first) {
         return Ok(Lexeme::Gap(0));
     }
-    if symbol_byte(first) {
-        let more = word_len(rest);
+    if is_symbol_byte(first) {
+        let more = symbol_len(rest);
         return Ok(Lexeme::Token(read_word(alloc, &tail[..1 + more])?, more));
     }
     match first {

@@ -4,6 +4,7 @@ use Rattle.std.specs.Prelude.{codes, map, not, replicate, ◌&&◌, ◌||◌, if
 use Rattle.std.specs.List.{list_any, list_all}
 use Rattle.std.proofs.lemmas.Bool.{and_from}
 use Rattle.std.proofs.lemmas.List.Folds.{list_any-append, list_all-append}
+use Rattle.scheme_data.specs.Names.{are_distinct, is_same}
 use Rattle.core_tree.specs.Tree.{ModuleTree, Callee}
 use Rattle.core_tree.specs.WellFormed.{AreNames}
 use Rattle.meaning.specs.Procedures.{Procedure, procedure_of}
@@ -12,12 +13,12 @@ use Rattle.c_tree.specs.declared.tree.CTy.TheVariants.{Obj}
 use Rattle.c_tree.specs.Code.{Item, declared, defined}
 use Rattle.c_tree.specs.Names.{maker_name, initializer_name, is_main, is_maker, is_initializer}
 use Rattle.c_tree.specs.Spelling.{NamedItems}
-use Rattle.c_meaning.specs.Execution.{is_same}
-use Rattle.c_meaning.specs.Checked.{Signature, signature_of, same_signature, signature_named, are_distinct, Role, Main, Maker, Initializer, Function, role_of, may_call, callable, item_fits, agrees, items_fit, defined_names, is_called_once, once_in, once_in_main, all_called, calls_each_once, is_sound, is_checked}
+use Rattle.c_meaning.specs.Checked.{Signature, signature_of, same_signature, signature_named, Role, Main, Maker, Initializer, Function, role_of, may_call, callable, item_fits, agrees, items_fit, defined_names, is_called_once, once_in, once_in_main, all_called, calls_each_once, is_sound, is_checked}
 use Rattle.plan_rules.specs.Joined.{Part, main_function, joined}
 use Rattle.plan_rules.specs.Translation.{Name, c_name_of}
 use Rattle.simulation.specs.Law.{AreTranslated}
-use Rattle.simulation.proofs.NameKinds.{function_is_named, function_not_once, never_once, maker_is_once, initializer_is_once}
+use Rattle.simulation.proofs.NameKinds.{function_not_once, never_once, maker_is_once, initializer_is_once}
+use Rattle.c_tree.proofs.CNames.{named_function}
 use Rattle.simulation.proofs.Members.{Has}
 use Rattle.simulation.proofs.Links.{formed_at}
 use Rattle.simulation.proofs.Signatures.{or_later, after, defined_signed, fit_both, defined_both}
@@ -79,7 +80,7 @@ units_named (m ∷ ms) (p ∷ ps) tr = named_both p.items (items_of ps) tr.1.nam
 pub joined_named : (program : List ModuleTree) (parts : List Part) (is : IsProgram program) → AreTranslated program parts → NamedItems (joined parts is.main)
 joined_named program parts is tr =
     let names = callee_named program is.formed is.main is.function is.is in
-    let main = main_named (module_names program) (c_name_of is.main) (are_names program is.formed) (function_is_named is.main.module_name is.main.name names.0 names.1) in
+    let main = main_named (module_names program) (c_name_of is.main) (are_names program is.formed) (named_function is.main.module_name is.main.name names.0 names.1) in
     subst NamedItems (sym (joined_is program parts is.main tr)) (named_both (items_of parts) (main_function (module_names program) (c_name_of is.main) ∷ []) (units_named program parts tr) (main, tt))
 
 -- No other `main` ---------------------------------------------------------------------------

@@ -4,13 +4,13 @@ use Rattle.std.specs.Prelude.{map, not, ◌||◌}
 use Rattle.std.specs.List.{list_any, list_all, flat_map}
 use Rattle.std.proofs.lemmas.Bool.{and_from, and_parts}
 use Rattle.std.proofs.lemmas.List.Folds.{list_any-append}
+use Rattle.scheme_data.specs.Names.{are_distinct, is_same}
 use Rattle.scheme_data.specs.Symbols.{IsName}
 use Rattle.core_tree.specs.Tree.{FunctionTree, ModuleTree}
 use Rattle.core_tree.specs.WellFormed.{AreFunctions, IsWellFormed}
 use Rattle.meaning.specs.Program.{AreWellFormed, IsProgram}
 use Rattle.c_tree.specs.Code.{Item, declared, defined}
-use Rattle.c_meaning.specs.Execution.{is_same}
-use Rattle.c_meaning.specs.Checked.{are_distinct, defined_names, items_fit}
+use Rattle.c_meaning.specs.Checked.{defined_names, items_fit}
 use Rattle.plan_rules.specs.Joined.{Part}
 use Rattle.plan_rules.specs.Translation.{Name, DefineNothing, TrInitializer, TrFunctions, outside_of, is_sound_with, Translated}
 use Rattle.simulation.specs.Law.{AreTranslated}

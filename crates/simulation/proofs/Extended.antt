@@ -5,6 +5,7 @@ use Rattle.std.specs.List.{list_any}
 use Rattle.std.specs.Option.{option_or}
 use Rattle.std.proofs.lemmas.Bool.{and_from, and_parts}
 use Rattle.std.proofs.lemmas.List.Folds.{find-append}
+use Rattle.scheme_data.specs.Names.{are_distinct, is_same}
 use Rattle.c_tree.specs.declared.tree.CTy.{CTy}
 use Rattle.c_tree.specs.declared.tree.CTy.TheVariants.{Obj, Int}
 use Rattle.c_tree.specs.declared.tree.CArg.{CArg}
@@ -14,8 +15,7 @@ use Rattle.c_tree.specs.declared.tree.CExpr.{CExpr}
 use Rattle.c_tree.specs.declared.tree.CExpr.TheVariants as expr
 use Rattle.c_tree.specs.declared.tree.CVar.{CVar}
 use Rattle.c_tree.specs.Code.{Code, done, assign, call, return, test, loop, Fun, Item, declared, defined}
-use Rattle.c_meaning.specs.Execution.{is_same}
-use Rattle.c_meaning.specs.Checked.{Signature, signature_named, variable_named, call_fits_signature, call_type, is_the_type, has_type, expr_fits, assigned_fits, code_fits, returns_last, are_distinct, variables_of, is_looped, Role, Main, Maker, Initializer, Function, role_of, same_type, same_types, is_straight, has_shape, function_fits, may_call, callable, item_fits}
+use Rattle.c_meaning.specs.Checked.{Signature, signature_named, variable_named, call_fits_signature, call_type, is_the_type, has_type, expr_fits, assigned_fits, code_fits, returns_last, variables_of, is_looped, Role, Main, Maker, Initializer, Function, role_of, same_type, same_types, is_straight, has_shape, function_fits, may_call, callable, item_fits}
 use Rattle.plan_rules.specs.Translation.{Name}
 use Rattle.simulation.proofs.Names.{same_name}
 

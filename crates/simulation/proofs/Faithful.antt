@@ -3,9 +3,10 @@ use Rattle.std.proofs.Common.{◌≡◌, List, [], true}
 use Rattle.std.specs.Prelude.{◌&&◌}
 use Rattle.std.specs.List.{list_any}
 use Rattle.std.proofs.lemmas.Bool.{and_parts}
+use Rattle.scheme_data.specs.Names.{are_distinct}
 use Rattle.c_tree.specs.Code.{Item}
 use Rattle.c_tree.specs.Names.{is_main}
-use Rattle.c_meaning.specs.Checked.{are_distinct, items_fit, defined_names, calls_each_once, is_sound, is_checked}
+use Rattle.c_meaning.specs.Checked.{items_fit, defined_names, calls_each_once, is_sound, is_checked}
 use Rattle.plan_rules.specs.Joined.{joined}
 use Rattle.simulation.specs.Law.{KeepsMeaning}
 use Rattle.simulation.proofs.Checked.{joined_checked, joined_named}

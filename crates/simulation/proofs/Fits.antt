@@ -13,7 +13,7 @@ use Rattle.c_tree.specs.declared.tree.CVar.{CVar}
 use Rattle.c_tree.specs.Code.{Code, Fun}
 use Rattle.c_meaning.specs.Word.{Word, True, False, Nil, Unspec}
 use Rattle.c_meaning.specs.Word as word
-use Rattle.c_meaning.specs.State.{Cell, AWord, ANumber, Frame, State as CState, put, Answer, with}
+use Rattle.c_meaning.specs.State.{Cell, AWord, ANumber, Frame, State as CState, put, with}
 use Rattle.c_meaning.specs.State as c
 use Rattle.c_meaning.specs.Operations.{ACell, operate}
 use Rattle.c_meaning.specs.Execution.{Lower, position_of, exec}

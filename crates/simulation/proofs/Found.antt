@@ -3,12 +3,13 @@ use Rattle.std.proofs.Common.{◌≡◌, List, [], ◌∷◌, ◌++◌, true, So
 use Rattle.std.specs.Prelude.{map, ◌&&◌}
 use Rattle.std.specs.List.{flat_map}
 use Rattle.std.proofs.lemmas.Bool.{and_parts}
+use Rattle.scheme_data.specs.Names.{are_distinct}
 use Rattle.core_tree.specs.Tree.{FunctionTree, ModuleTree, Callee}
 use Rattle.meaning.specs.Procedures.{Procedure, procedure_of}
 use Rattle.c_tree.specs.Code.{Fun, Item, declared, defined}
 use Rattle.c_tree.specs.Names.{function_name, maker_name, initializer_name}
 use Rattle.c_meaning.specs.Execution.{fun_named}
-use Rattle.c_meaning.specs.Checked.{Signature, signature_of, role_of, has_shape, callable, item_fits, agrees, items_fit, defined_names, are_distinct, variables_of}
+use Rattle.c_meaning.specs.Checked.{Signature, signature_of, role_of, has_shape, callable, item_fits, agrees, items_fit, defined_names, variables_of}
 use Rattle.c_meaning.specs.Program.{functions_of}
 use Rattle.plan_rules.specs.Joined.{Part, main_function, joined}
 use Rattle.plan_rules.specs.Translation.{Name, TrFunction, IsEmpty, TrForms, TrInitializer, TrFunctions, Translated, c_name_of, outside_of, is_sound_with}

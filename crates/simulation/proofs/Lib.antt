@@ -2,7 +2,6 @@ pub mod Arguments
 pub mod Boxes
 pub mod BranchExamples
 pub mod Branches
-pub mod CNames
 pub mod CallExamples
 pub mod Callees
 pub mod Calls

@@ -3,12 +3,13 @@ use Rattle.std.proofs.Common.{◌≡◌, ℕ, List, [], ◌∷◌, length, true,
 use Rattle.std.specs.Prelude.{slice_get}
 use Rattle.std.specs.List.{list_all}
 use Rattle.std.proofs.lemmas.Cmp.{nat_eq_equiv}
+use Rattle.scheme_data.specs.Names.{is_same}
 use Rattle.iface_text.specs.declared.interface.Row.{Row}
 use Rattle.core_tree.specs.declared.tree.GlobalRef.TheVariants.{Own, Used}
 use Rattle.core_tree.specs.declared.tree.Use.{Use}
 use Rattle.core_tree.specs.declared.tree.Use.TheVariants.{From, Need}
 use Rattle.core_tree.specs.Tree.{FunctionTree, ModuleTree, Callee, function_named, own_callee, row_callee, found_own, found_use, used_callees, is_called}
-use Rattle.core_tree.specs.WellFormed.{is_same, IsWellFormed}
+use Rattle.core_tree.specs.WellFormed.{IsWellFormed}
 use Rattle.meaning.specs.Procedures.{Procedure, module_named, found_in, procedure_in, procedure_of, takes, is_there}
 use Rattle.meaning.specs.Program.{AreWellFormed, IsProgram}
 use Rattle.simulation.proofs.Names.{same_name}

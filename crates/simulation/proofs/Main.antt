@@ -2,6 +2,7 @@
 use Rattle.std.proofs.Common.{◌≡◌, ℕ, zero, suc, ◌≤◌, List, [], ◌∷◌, ◌++◌, length, Some, true, false, refl, sym, ap, ◌∙◌, subst, arith, inl, inr}
 use Rattle.std.specs.Prelude.{codes, map, slice_get, nat_eq, pos, negsuc, if◌then◌else◌}
 use Rattle.std.specs.List.{flat_map}
+use Rattle.scheme_data.specs.Names.{are_distinct}
 use Rattle.scheme_data.specs.Decimal.{decimal_text}
 use Rattle.base_io.specs.declared.end.End.{End}
 use Rattle.base_io.specs.declared.end.End.TheVariants.{Ended, Raised, Spent}
@@ -27,7 +28,7 @@ use Rattle.c_meaning.specs.Word as word
 use Rattle.c_meaning.specs.State.{Cell, AWord, State as CState, Frame, put, frame_of, Answer, Has as HasCell, Flow, Next, Goes, Returns, Escapes, Raises, Spends, Fails, with, after, answer}
 use Rattle.c_meaning.specs.Operations.{ACell, status, status_in}
 use Rattle.c_meaning.specs.Execution.{Lower, fun_named, names_of, entry, iterate, looped, run, enter, enter_any, exec, exec_main}
-use Rattle.c_meaning.specs.Checked.{are_distinct, defined_names}
+use Rattle.c_meaning.specs.Checked.{defined_names}
 use Rattle.c_meaning.specs.Program.{cm, functions_of, shown, start, run_main, main_of}
 use Rattle.plan_rules.specs.declared.rep.Rep.TheVariants.{Obj}
 use Rattle.plan_rules.specs.Translation.{Name, IsEmpty, TrFunction, TrForms, c_name_of}

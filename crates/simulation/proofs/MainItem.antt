@@ -5,6 +5,7 @@ use Rattle.std.specs.List.{list_any, list_all}
 use Rattle.std.proofs.lemmas.Bool.{and_from, and_parts}
 use Rattle.std.proofs.lemmas.List.{append-nil}
 use Rattle.std.proofs.lemmas.List.Folds.{list_any-append, list_all-append}
+use Rattle.scheme_data.specs.Names.{are_distinct, is_same}
 use Rattle.scheme_data.specs.Symbols.{IsName}
 use Rattle.core_tree.specs.Tree.{ModuleTree}
 use Rattle.core_tree.specs.WellFormed.{AreNames}
@@ -14,15 +15,15 @@ use Rattle.c_tree.specs.declared.tree.CVar.{CVar}
 use Rattle.c_tree.specs.Code.{Code}
 use Rattle.c_tree.specs.Names.{maker_name, initializer_name, is_function_name, is_local_name}
 use Rattle.c_tree.specs.Spelling.{NamedCode, NamedItem}
-use Rattle.c_meaning.specs.Execution.{is_same}
-use Rattle.c_meaning.specs.Checked.{Signature, signature_named, same_type, AType, arguments_fit, call_fits_signature, is_the_type, has_type, code_fits, returns_last, are_distinct, Main, callable, item_fits, defined_names, is_called_once, once_in, once_in_main, all_called}
+use Rattle.c_meaning.specs.Checked.{Signature, signature_named, same_type, AType, arguments_fit, call_fits_signature, is_the_type, has_type, code_fits, returns_last, Main, callable, item_fits, defined_names, is_called_once, once_in, once_in_main, all_called}
 use Rattle.plan_rules.specs.Representation.{local}
 use Rattle.plan_rules.specs.Joined.{Part, first_local, second_local, calls_alone, call_main, main_code, main_function}
 use Rattle.plan_rules.specs.Translation.{Name}
 use Rattle.simulation.specs.Law.{AreTranslated}
 use Rattle.simulation.proofs.Names.{other_name, same_test, not_parts}
-use Rattle.simulation.proofs.CNames.{maker_name_part, initializer_name_part}
-use Rattle.simulation.proofs.NameKinds.{NameOf, a_function, a_maker, an_initializer, maker_is_named, initializer_is_named, maker_is_once, initializer_is_once, function_not_once, other_kinds}
+use Rattle.c_tree.proofs.CNames.{maker_name_part, initializer_name_part}
+use Rattle.simulation.proofs.NameKinds.{NameOf, a_function, a_maker, an_initializer, maker_is_once, initializer_is_once, function_not_once, other_kinds}
+use Rattle.c_tree.proofs.CNames.{named_maker, named_initializer}
 use Rattle.simulation.proofs.Members.{Has, named_there}
 use Rattle.simulation.proofs.Signatures.{or_later, defined_both}
 use Rattle.simulation.proofs.Distinct.{items_of, or_parts, distinct_both, NamesOf, unit_named}
@@ -40,7 +41,7 @@ call_named f named = (refl, (tt, tt), (refl, (named, (refl, tt)), ((tt, (refl, t
 pub main_named : (ms : List Name) (f : Name) → AreNames ms → IsTrue (is_function_name f) → NamedItem (main_function ms f)
 unfolding is_function_name is_local_name
 main_named ms f are named =
-    (refl, tt, (refl, (refl, tt)), named_calls maker_name maker_is_named ms are (calls_alone (map initializer_name ms) (call_main f)) (named_calls initializer_name initializer_is_named ms are (call_main f) (call_named f named)))
+    (refl, tt, (refl, (refl, tt)), named_calls maker_name named_maker ms are (calls_alone (map initializer_name ms) (call_main f)) (named_calls initializer_name named_initializer ms are (call_main f) (call_named f named)))
 
 -- Types -------------------------------------------------------------------------------------
 
@@ -105,22 +106,22 @@ main_once ms f are never =
 -- Each once ---------------------------------------------------------------------------------
 
 abbrev Injective : (Name → Name) → Type 0
-Injective of = (m k : Name) → IsName m → IsName k → of m ≡ of k → m ≡ k
+Injective of = (m k : Name) → of m ≡ of k → m ≡ k
 
-others_of : (of : Name → Name) → Injective of → (m : Name) → IsName m → (ms : List Name) → AreNames ms → list_any (is_same m) ms ≡ false → list_any (is_same (of m)) (map of ms) ≡ false
-others_of of parts m is [] are other = refl
-others_of of parts m is (k ∷ ms) are other =
+others_of : (of : Name → Name) → Injective of → (m : Name) (ms : List Name) → list_any (is_same m) ms ≡ false → list_any (is_same (of m)) (map of ms) ≡ false
+others_of of parts m [] other = refl
+others_of of parts m (k ∷ ms) other =
     let apart = or_parts (is_same m k) (list_any (is_same m) ms) other in
-    ap (λ b. b || list_any (is_same (of m)) (map of ms)) (other_name (of m) (of k) (λ e. absurd (let bad : false ≡ true = sym apart.0 ∙ same_test m k (parts m k is are.0 e) in cc)))
-    ∙ others_of of parts m is ms are.1 apart.1
+    ap (λ b. b || list_any (is_same (of m)) (map of ms)) (other_name (of m) (of k) (λ e. absurd (let bad : false ≡ true = sym apart.0 ∙ same_test m k (parts m k e) in cc)))
+    ∙ others_of of parts m ms apart.1
 
-distinct_of : (of : Name → Name) → Injective of → (ms : List Name) → AreNames ms → are_distinct ms ≡ true → are_distinct (map of ms) ≡ true
-distinct_of of parts [] are distinct = refl
-distinct_of of parts (m ∷ ms) are distinct =
+distinct_of : (of : Name → Name) → Injective of → (ms : List Name) → are_distinct ms ≡ true → are_distinct (map of ms) ≡ true
+distinct_of of parts [] distinct = refl
+distinct_of of parts (m ∷ ms) distinct =
     let apart = and_parts (not (list_any (is_same m) ms)) (are_distinct ms) distinct in
     and_from (not (list_any (is_same (of m)) (map of ms))) (are_distinct (map of ms))
-    (ap not (others_of of parts m are.0 ms are.1 (not_parts (list_any (is_same m) ms) apart.0)))
-    (distinct_of of parts ms are.1 apart.1)
+    (ap not (others_of of parts m ms (not_parts (list_any (is_same m) ms) apart.0)))
+    (distinct_of of parts ms apart.1)
 
 no_initializer : (m : Name) → IsName m → (ks : List Name) → list_any (is_same (maker_name m)) (map initializer_name ks) ≡ false
 no_initializer m is [] = refl
@@ -134,7 +135,7 @@ no_initializers (m ∷ ms) ks are =
 
 pub once_distinct : (ms : List Name) → AreNames ms → are_distinct ms ≡ true → are_distinct (called_in_main ms) ≡ true
 once_distinct ms are distinct =
-    distinct_both (map maker_name ms) (map initializer_name ms) (distinct_of maker_name maker_name_part ms are distinct) (distinct_of initializer_name initializer_name_part ms are distinct) (no_initializers ms ms are)
+    distinct_both (map maker_name ms) (map initializer_name ms) (distinct_of maker_name maker_name_part ms distinct) (distinct_of initializer_name initializer_name_part ms distinct) (no_initializers ms ms are)
 
 -- All of them -------------------------------------------------------------------------------
 

@@ -3,8 +3,7 @@ use Rattle.std.proofs.Common.{◌≡◌, List, [], ◌∷◌, ◌++◌, Bool, tr
 use Rattle.std.specs.Prelude.{ℕ, zero, suc, find, map, not, ◌||◌, slice_get, if◌then◌else◌}
 use Rattle.std.specs.List.{list_all, list_any}
 use Rattle.std.proofs.lemmas.Bool.{and_from, and_parts}
-use Rattle.c_meaning.specs.Execution.{is_same}
-use Rattle.c_meaning.specs.Checked.{are_distinct}
+use Rattle.scheme_data.specs.Names.{are_distinct, is_same}
 use Rattle.plan_rules.specs.Translation.{Name}
 use Rattle.simulation.proofs.Names.{same_name, same_test, not_parts}
 

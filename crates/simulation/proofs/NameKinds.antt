@@ -1,37 +1,11 @@
 -- The names of a module's C functions: a function may have them, and no two modules share one.
-use Rattle.std.proofs.Common.{◌≡◌, ℕ, zero, suc, ◌<◌, ◌≤◌, List, [], ◌∷◌, length, Bool, true, false, refl, sym, ap, ◌∙◌, arith}
+use Rattle.std.proofs.Common.{◌≡◌, Bool, true, false, refl, sym, ap, ◌∙◌}
 use Rattle.std.specs.Prelude.{◌||◌, IsTrue}
-use Rattle.std.specs.List.{list_all}
-use Rattle.std.proofs.lemmas.Bool.{and_parts}
-use Rattle.std.proofs.lemmas.Bool.Decides.{nat_tests}
-use Rattle.scheme_data.specs.Symbols.{IsName, is_symbol_byte}
+use Rattle.scheme_data.specs.Symbols.{IsName}
 use Rattle.c_tree.specs.Names.{function_name, maker_name, initializer_name, is_function_name, is_maker, is_initializer}
-use Rattle.c_tree.proofs.NameShapes.{AreBytes, function_name-is_function_name, maker_name-is_function_name, initializer_name-is_function_name}
 use Rattle.c_meaning.specs.Checked.{is_called_once}
 use Rattle.plan_rules.specs.Translation.{Name}
-use Rattle.simulation.proofs.CNames.{function_name_parts, maker_name_part, initializer_name_part}
-
--- Names of functions ------------------------------------------------------------------------
-
-byte_small : (b : ℕ) → is_symbol_byte b ≡ true → b < 256
-byte_small b e = grind (arith, nat_tests)
-
-bytes_small : (bs : List ℕ) → list_all is_symbol_byte bs ≡ true → AreBytes bs
-bytes_small [] e i = omega arith
-bytes_small (b ∷ bs) e zero = byte_small b (and_parts (is_symbol_byte b) (list_all is_symbol_byte bs) e).0
-bytes_small (b ∷ bs) e (suc i) = bytes_small bs (and_parts (is_symbol_byte b) (list_all is_symbol_byte bs) e).1 i
-
-not_empty : (n : ℕ) → 1 ≤ n → 0 < n
-not_empty n some = omega arith
-
-pub function_is_named : (m f : Name) → IsName m → IsName f → IsTrue (is_function_name (function_name m f))
-function_is_named m f is_m is_f = function_name-is_function_name m f (not_empty (length m) is_m.some) (not_empty (length f) is_f.some) (bytes_small m is_m.bytes) (bytes_small f is_f.bytes)
-
-pub maker_is_named : (m : Name) → IsName m → IsTrue (is_function_name (maker_name m))
-maker_is_named m is = maker_name-is_function_name m (not_empty (length m) is.some) (bytes_small m is.bytes)
-
-pub initializer_is_named : (m : Name) → IsName m → IsTrue (is_function_name (initializer_name m))
-initializer_is_named m is = initializer_name-is_function_name m (not_empty (length m) is.some) (bytes_small m is.bytes)
+use Rattle.c_tree.proofs.CNames.{function_name_parts, maker_name_part, initializer_name_part, named_maker, named_initializer}
 
 -- Kinds of names ----------------------------------------------------------------------------
 
@@ -41,11 +15,11 @@ or_false false e = absurd (cc)
 
 a_maker_is : (m : Name) → IsName m → is_maker (maker_name m) ≡ true
 unfolding is_function_name maker_name
-a_maker_is m is = or_false (is_maker (maker_name m)) (maker_is_named m is)
+a_maker_is m is = or_false (is_maker (maker_name m)) (named_maker m is)
 
 an_initializer_is : (m : Name) → IsName m → is_initializer (initializer_name m) ≡ true
 unfolding is_function_name initializer_name
-an_initializer_is m is = or_false (is_initializer (initializer_name m)) (initializer_is_named m is)
+an_initializer_is m is = or_false (is_initializer (initializer_name m)) (named_initializer m is)
 
 no_maker : (m : Name) → is_maker (initializer_name m) ≡ false
 unfolding initializer_name
@@ -76,9 +50,9 @@ pub data NameOf (m n : Name) : Type 0 where
   an_initializer : n ≡ initializer_name m → NameOf m n
 
 pub same_module : (m k n : Name) → IsName m → IsName k → NameOf m n → NameOf k n → m ≡ k
-same_module m k n is_m is_k (a_function f is_f e) (a_function g is_g d) = (function_name_parts m f k g is_m is_f is_k is_g (sym e ∙ d)).0
-same_module m k n is_m is_k (a_maker e) (a_maker d) = maker_name_part m k is_m is_k (sym e ∙ d)
-same_module m k n is_m is_k (an_initializer e) (an_initializer d) = initializer_name_part m k is_m is_k (sym e ∙ d)
+same_module m k n is_m is_k (a_function f is_f e) (a_function g is_g d) = (function_name_parts m f k g (sym e ∙ d)).0
+same_module m k n is_m is_k (a_maker e) (a_maker d) = maker_name_part m k (sym e ∙ d)
+same_module m k n is_m is_k (an_initializer e) (an_initializer d) = initializer_name_part m k (sym e ∙ d)
 same_module m k n is_m is_k (a_function f is_f e) (a_maker d) = absurd (never_once n m f e (ap is_called_once d ∙ maker_is_once k is_k))
 same_module m k n is_m is_k (a_function f is_f e) (an_initializer d) = absurd (never_once n m f e (ap is_called_once d ∙ initializer_is_once k is_k))
 same_module m k n is_m is_k (a_maker e) (a_function g is_g d) = absurd (never_once n k g d (ap is_called_once e ∙ maker_is_once m is_m))

@@ -2,8 +2,8 @@
 use Rattle.std.proofs.Common.{◌≡◌, ℕ, List, Bool, true, false, refl, sym, ap, ◌∙◌}
 use Rattle.std.specs.Prelude.{not}
 use Rattle.std.specs.Cmp.Lexicographic.{same_text, other_text}
+use Rattle.scheme_data.specs.Names.{is_same}
 use Rattle.c_tree.specs.Names.{function_name, is_main}
-use Rattle.c_meaning.specs.Execution.{is_same}
 
 pub not_parts : (x : Bool) → not x ≡ true → x ≡ false
 not_parts true e = absurd (cc)

@@ -6,6 +6,7 @@ use Rattle.std.proofs.lemmas.Bool.{and_from, eqb-true}
 use Rattle.std.proofs.lemmas.List.Elements.{All-contains}
 use Rattle.std.proofs.lemmas.List.Folds.{list_all-append, list_all-map}
 use Rattle.std.proofs.lemmas.List.Sums.{AllPass-from_list_all}
+use Rattle.scheme_data.specs.Names.{is_same}
 use Rattle.scheme_data.specs.Symbols.{IsName}
 use Rattle.core_tree.specs.declared.tree.VarId.{VarId}
 use Rattle.core_tree.specs.Tree.{FunctionTree, ModuleTree, Callee, own_callee, used_callees}
@@ -16,11 +17,10 @@ use Rattle.c_tree.specs.declared.tree.CTy.{CTy}
 use Rattle.c_tree.specs.declared.tree.CTy.TheVariants.{Obj}
 use Rattle.c_tree.specs.Code.{Fun, Item, declared, defined}
 use Rattle.c_tree.specs.Names.{maker_name, is_main}
-use Rattle.c_meaning.specs.Execution.{is_same}
 use Rattle.c_meaning.specs.Checked.{Signature, signature_of, same_signature, signature_named, agrees, is_called_once}
 use Rattle.plan_rules.specs.Translation.{Name, TrFunction, IsEmpty, DefineNothing, TrForms, TrInitializer, TrFunctions, callees, IsDeclared, AreDeclared, c_name_of, Translated}
 use Rattle.simulation.proofs.Names.{same_name, not_main}
-use Rattle.simulation.proofs.CNames.{function_name_parts}
+use Rattle.c_tree.proofs.CNames.{function_name_parts}
 use Rattle.simulation.proofs.NameKinds.{never_once, maker_is_once, initializer_is_once}
 use Rattle.simulation.proofs.Members.{Has, all_have, each_passes}
 use Rattle.simulation.proofs.Links.{placed, formed_at, own_there}
@@ -127,7 +127,7 @@ pub same_procedure : (program : List ModuleTree) → AreWellFormed program → (
 same_procedure program formed c d p q at_c at_d e =
     let named_c = callee_named program formed c p at_c in
     let named_d = callee_named program formed d q at_d in
-    let parts = function_name_parts c.module_name c.name d.module_name d.name named_c.0 named_c.1 named_d.0 named_d.1 e in
+    let parts = function_name_parts c.module_name c.name d.module_name d.name e in
     let same : procedure_of program (Some c) ≡ procedure_of program (Some d) = ap (λ m. procedure_in (module_named program m) c.name) parts.0 ∙ ap (procedure_in (module_named program d.module_name)) parts.1 in
     let both : Some p ≡ Some q = sym at_c ∙ same ∙ at_d in cc
 

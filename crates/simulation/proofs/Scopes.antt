@@ -3,6 +3,7 @@ use Rattle.std.proofs.Common.{◌≡◌, ℕ, suc, ◌≤◌, List, [], ◌∷�
 use Rattle.std.specs.Prelude.{map, not, ◌||◌, if◌then◌else◌}
 use Rattle.std.specs.List.{list_any}
 use Rattle.std.proofs.lemmas.Bool.{and_parts}
+use Rattle.scheme_data.specs.Names.{are_distinct, is_same}
 use Rattle.core_tree.specs.declared.tree.VarId.{VarId}
 use Rattle.core_tree.specs.WellFormed.{same_variable}
 use Rattle.meaning.specs.Value.{Value}
@@ -10,8 +11,7 @@ use Rattle.meaning.specs.Evaluation.{Environment, bound, value_of}
 use Rattle.c_tree.specs.declared.tree.CTy.TheVariants as c_ty
 use Rattle.c_tree.specs.declared.tree.CVar.{CVar}
 use Rattle.c_meaning.specs.State.{Cell, Frame, State as CState, frame_of}
-use Rattle.c_meaning.specs.Execution.{is_same, position_of}
-use Rattle.c_meaning.specs.Checked.{are_distinct}
+use Rattle.c_meaning.specs.Execution.{position_of}
 use Rattle.plan_rules.specs.declared.rep.Rep.{Rep}
 use Rattle.plan_rules.specs.declared.rep.Rep.TheVariants.{Obj}
 use Rattle.plan_rules.specs.Representation.{Slot, PlainAt, Scope, slot_of}

@@ -3,10 +3,10 @@ use Rattle.std.proofs.Common.{◌≡◌, List, [], ◌∷◌, ◌++◌, Bool, tr
 use Rattle.std.specs.Prelude.{◌&&◌, ◌||◌, if◌then◌else◌}
 use Rattle.std.specs.List.{list_any}
 use Rattle.std.proofs.lemmas.Bool.{and_from, and_parts}
+use Rattle.scheme_data.specs.Names.{is_same}
 use Rattle.c_tree.specs.declared.tree.CTy.{CTy}
 use Rattle.c_tree.specs.declared.tree.CTy.TheVariants.{Obj, Long, Char, Int}
 use Rattle.c_tree.specs.Code.{Item, declared, defined}
-use Rattle.c_meaning.specs.Execution.{is_same}
 use Rattle.c_meaning.specs.Checked.{Signature, signature_of, same_type, same_types, same_signature, signature_named, agrees, item_fits, items_fit, defined_names}
 use Rattle.plan_rules.specs.Translation.{Name}
 use Rattle.simulation.proofs.Names.{turned}

@@ -4,13 +4,13 @@ use Rattle.std.specs.Prelude.{map, ◌&&◌, ◌||◌, Some}
 use Rattle.std.specs.List.{list_any, list_all}
 use Rattle.std.proofs.lemmas.Bool.{and_from, and_parts}
 use Rattle.std.proofs.lemmas.List.Folds.{list_any-append}
+use Rattle.scheme_data.specs.Names.{are_distinct, is_same}
 use Rattle.core_tree.specs.Tree.{ModuleTree, Callee, used_callees}
 use Rattle.meaning.specs.Procedures.{Procedure, procedure_of, is_there}
 use Rattle.meaning.specs.Program.{IsProgram}
 use Rattle.c_tree.specs.Code.{Fun, Item}
 use Rattle.c_tree.specs.Names.{function_name, maker_name, initializer_name}
-use Rattle.c_meaning.specs.Execution.{is_same}
-use Rattle.c_meaning.specs.Checked.{Signature, signature_of, are_distinct, agrees, item_fits, items_fit, defined_names}
+use Rattle.c_meaning.specs.Checked.{Signature, signature_of, agrees, item_fits, items_fit, defined_names}
 use Rattle.c_meaning.specs.Program.{functions_of}
 use Rattle.plan_rules.specs.Joined.{Part}
 use Rattle.plan_rules.specs.Translation.{Name, TrFunction, IsEmpty, TrForms, c_name_of, outside_of, is_sound_with, Translated}

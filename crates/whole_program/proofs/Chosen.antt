@@ -4,7 +4,7 @@ use Rattle.std.specs.List.{list_any}
 use Rattle.std.specs.Option.{option_map}
 use Rattle.std.proofs.lemmas.Bool.{and_from, not_from_false, or_parts, or_from, or_left, or_right, eq-eqb, false_from_ne_true, true≢false}
 use Rattle.std.proofs.lemmas.Option.{slice_get-map}
-use Rattle.core_tree.specs.WellFormed.{is_same, are_distinct}
+use Rattle.scheme_data.specs.Names.{are_distinct, is_same}
 use Rattle.meaning.specs.Order.{is_marked, onto_chosen, chosen}
 use Rattle.whole_program.proofs.Members.{Among, one_place, same_name}
 use Rattle.whole_program.proofs.Visits.{Once, either}

@@ -2,6 +2,7 @@
 use Rattle.std.proofs.Common.{◌≡◌, ℕ, zero, suc, Bool, true, false, cond, not, nat_lt, length, List, [], ◌∷◌, map, find, Option, Some, None, slice_get, refl, sym, ap, ap₂, ◌∙◌, subst, if◌then◌else◌}
 use Rattle.std.specs.List.{list_all, AllByRecursion as Each}
 use Rattle.std.proofs.lemmas.Bool.{and_parts}
+use Rattle.scheme_data.specs.Names.{are_distinct, is_same}
 use Rattle.built_table.specs.declared.primitives.Ty.{Ty}
 use Rattle.built_table.specs.declared.primitives.Ty.TheVariants.{Obj, Long, Bool as Truth}
 use Rattle.name_table.specs.Names.{has_name}
@@ -12,7 +13,7 @@ use Rattle.iface_text.specs.Format.{IfaceTree}
 use Rattle.core_tree.specs.declared.tree.ImportItem.{ImportItem}
 use Rattle.core_tree.specs.declared.tree.Use.{Use}
 use Rattle.core_tree.specs.Tree.{ModuleTree}
-use Rattle.core_tree.specs.WellFormed.{is_same, are_distinct, module_of, row_of, IsWellFormed}
+use Rattle.core_tree.specs.WellFormed.{module_of, row_of, IsWellFormed}
 use Rattle.meaning.specs.Order.{onto_chosen, chosen}
 use Rattle.meaning.specs.Program.{main_in, main_of}
 use Rattle.simulation.specs.Law.{AreTranslated}

@@ -3,6 +3,7 @@ use Rattle.std.proofs.Common.{◌≡◌, ℕ, true, ◌&&◌, List, [], ◌∷�
 use Rattle.std.specs.List.{list_all, AllByRecursion as Each}
 use Rattle.std.proofs.lemmas.Bool.{and_parts, eqb-true}
 use Rattle.std.proofs.lemmas.Option.{same_Some}
+use Rattle.scheme_data.specs.Names.{are_distinct, is_same}
 use Rattle.name_table.specs.Names.{has_name}
 use Rattle.iface_text.specs.declared.interface.Row.{Row}
 use Rattle.iface_text.specs.Format.{IfaceTree}
@@ -11,7 +12,7 @@ use Rattle.core_tree.specs.declared.tree.VarId.{VarId}
 use Rattle.core_tree.specs.declared.tree.Use.{Use}
 use Rattle.core_tree.specs.declared.tree.Use.TheVariants.{From, Need}
 use Rattle.core_tree.specs.Tree.{FunctionTree, ModuleTree, Callee, function_named, params_in, row_callee, used_callees}
-use Rattle.core_tree.specs.WellFormed.{is_same, are_distinct, takes as takes_name, IsUse, AreUses, IsMain, IsWellFormed, is_exported, takes_as_many}
+use Rattle.core_tree.specs.WellFormed.{takes as takes_name, IsUse, AreUses, IsMain, IsWellFormed, is_exported, takes_as_many}
 use Rattle.meaning.specs.Order.{imports_of, is_marked, IsOrder, chosen}
 use Rattle.meaning.specs.Procedures.{module_named, found_in, procedure_in, procedure_of, takes, is_there}
 use Rattle.meaning.specs.Program.{main_in, main_of, AreWellFormed, are_linked, IsProgram}

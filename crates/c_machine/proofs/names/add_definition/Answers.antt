@@ -1,7 +1,7 @@
 use Rattle.std.proofs.Common.{◌≡◌, true, ◌++◌, [], subst, ap, ◌∙◌}
+use Rattle.scheme_data.specs.Names.{are_distinct}
 use Rattle.name_table.specs.Names.{has_name}
 use Rattle.c_tree.specs.declared.function.CItem.{CItem}
-use Rattle.c_meaning.specs.Checked.{are_distinct}
 use Rattle.c_machine.specs.Decoded.{function_names, definition_in}
 use Rattle.c_machine.proofs.Distinct.{distinct_new}
 use Rattle.c_machine.proofs.names.add_definition.Goals as goal

@@ -1,7 +1,7 @@
 use Rattle.std.proofs.Common.{◌++◌, sym, ap, ◌∙◌}
 use Rattle.std.proofs.lemmas.List.{map-append}
+use Rattle.scheme_data.specs.Names.{are_distinct}
 use Rattle.c_tree.specs.declared.tree.CVar.{CVar}
-use Rattle.c_meaning.specs.Checked.{are_distinct}
 use Rattle.c_machine.specs.Decoded.{variable_names}
 use Rattle.c_machine.proofs.Distinct.{distinct_front}
 use Rattle.c_machine.proofs.names.names_in_function.Goals as goal

@@ -2,7 +2,8 @@ use Rattle.std.proofs.Common.{◌≡◌, List, map, sym, subst}
 use Rattle.c_tree.specs.Code.{Item}
 use Rattle.c_tree.specs.Functions.{items_of}
 use Rattle.c_tree.specs.Spelling.{NamedItems}
-use Rattle.linker.specs.Modules.{unit_part, joined_with}
+use Rattle.plan_rules.specs.Joined.{joined_with}
+use Rattle.linker.specs.Modules.{unit_part}
 use Rattle.linker.proofs.Programs.{program_is, joined_named}
 use Rattle.linker.proofs.joining.joined_program.Goals as goal
 

@@ -1,5 +1,5 @@
 use Rattle.std.proofs.Common.{◌≡◌, ◌++◌, drop, true}
-use Rattle.core_tree.specs.WellFormed.{are_distinct}
+use Rattle.scheme_data.specs.Names.{are_distinct}
 use Rattle.linker.specs.Links.{names_of}
 use Rattle.linker.specs.Modules.{trees}
 use Rattle.linker.proofs.modules.module_names.Given as goal

@@ -1,7 +1,8 @@
 use Rattle.std.proofs.Common.{List, ℕ, not, [], ◌∷◌, ◌++◌, ap, ◌∙◌}
 use Rattle.std.specs.List.{list_any}
 use Rattle.module_head.specs.Heads.{is_word}
-use Rattle.module_head.proofs.Exported.{there, absent, inserted, listed_twice, listed_more}
+use Rattle.scheme_data.proofs.DistinctNames.{there, absent, inserted}
+use Rattle.module_head.proofs.Exported.{listed_twice, listed_more}
 use Rattle.module_head.proofs.head.names_are_distinct.Goals as goal
 
 pub returns-then-not-branch : goal.returns-then-not-branch

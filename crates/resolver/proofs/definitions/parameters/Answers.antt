@@ -1,6 +1,7 @@
 use Rattle.std.proofs.Common.{sym, ap, ◌∙◌}
 use Rattle.resolver.specs.Names.{is_bound_name}
-use Rattle.resolver.proofs.Tables.{there, absent, inserted, not_bound, read_twice, read_more}
+use Rattle.scheme_data.proofs.DistinctNames.{there, absent, inserted}
+use Rattle.resolver.proofs.Tables.{not_bound, read_twice, read_more}
 use Rattle.resolver.proofs.definitions.parameters.Goals as goal
 
 pub returns-then-not-may_be_bound : goal.returns-then-not-may_be_bound

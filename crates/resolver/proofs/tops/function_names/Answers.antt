@@ -1,4 +1,5 @@
-use Rattle.resolver.proofs.Tables.{there, absent, inserted, listed_twice, listed_more}
+use Rattle.scheme_data.proofs.DistinctNames.{there, absent, inserted}
+use Rattle.resolver.proofs.Tables.{listed_twice, listed_more}
 use Rattle.resolver.proofs.tops.function_names.Goals as goal
 
 pub returns-then-not-branch : goal.returns-then-not-branch

@@ -9,5 +9,5 @@ returns-in_default c = no_character c.args.rest.now c.in_default.len_below
 
 pub returns : goal.returns
 returns c =
-    is_character c.args.rest.now c.word_len-n.result c.character.result c.in-len1-up.len_at_least
-    (c.word_len-n.ensures.value ∙ ap (prefix_len is_symbol_byte) (rest_is 1 c.args.rest.now)) c.character.ensures
+    is_character c.args.rest.now c.symbol_len-n.result c.character.result c.in-len1-up.len_at_least
+    (c.symbol_len-n.ensures.value ∙ ap (prefix_len is_symbol_byte) (rest_is 1 c.args.rest.now)) c.character.ensures

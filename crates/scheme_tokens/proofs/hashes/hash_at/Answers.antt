@@ -24,4 +24,4 @@ returns-in_default-first c =
     let vector : nat_eq b 40 ≡ false = grind (arith, nat_tests) in
     let block : nat_eq b 124 ≡ false = grind (arith, nat_tests) in
     let character : nat_eq b 92 ≡ false = grind (arith, nat_tests) in
-    hash_constant c.args.rest.now c.word_len-n.result c.constant.result c.in-len1-up.len_at_least vector block character c.word_len-n.ensures.value c.constant.ensures
+    hash_constant c.args.rest.now c.symbol_len-n.result c.constant.result c.in-len1-up.len_at_least vector block character c.symbol_len-n.ensures.value c.constant.ensures

@@ -14,11 +14,11 @@ returns-in_default c = lexeme_none c.args.tail.now c.in_default.len_below
 pub returns-then-space : goal.returns-then-space
 returns-then-space c = lexeme_space c.args.tail.now c.in-len1-up.len_at_least (sym c.space.ensures ∙ c.if-space.true)
 
-pub returns-then-symbol_byte : goal.returns-then-symbol_byte
-returns-then-symbol_byte c =
-    lexeme_word c.args.tail.now c.word_len-more.result c.in_ok-read_word.field-0 c.in-len1-up.len_at_least
-    (sym c.space.ensures ∙ c.if-space.false) (sym c.symbol_byte.ensures ∙ c.if-symbol_byte.true)
-    (c.word_len-more.ensures.value ∙ ap (prefix_len is_symbol_byte) (rest_is 1 c.args.tail.now)) c.in_ok-read_word.ensures
+pub returns-then-is_symbol_byte : goal.returns-then-is_symbol_byte
+returns-then-is_symbol_byte c =
+    lexeme_word c.args.tail.now c.symbol_len-more.result c.in_ok-read_word.field-0 c.in-len1-up.len_at_least
+    (sym c.space.ensures ∙ c.if-space.false) (sym c.is_symbol_byte.ensures ∙ c.if-is_symbol_byte.true)
+    (c.symbol_len-more.ensures.value ∙ ap (prefix_len is_symbol_byte) (rest_is 1 c.args.tail.now)) c.in_ok-read_word.ensures
 
 pub returns-in-59 : goal.returns-in-59
 returns-in-59 c =
@@ -40,4 +40,4 @@ returns-in_default-first c =
     let quote : nat_eq b 34 ≡ false = grind (arith, nat_tests) in
     let hash : nat_eq b 35 ≡ false = grind (arith, nat_tests) in
     lexeme_mark c.args.tail.now c.mark.result c.in-len1-up.len_at_least
-    (sym c.space.ensures ∙ c.if-space.false) (sym c.symbol_byte.ensures ∙ c.if-symbol_byte.false) line quote hash c.mark.ensures
+    (sym c.space.ensures ∙ c.if-space.false) (sym c.is_symbol_byte.ensures ∙ c.if-is_symbol_byte.false) line quote hash c.mark.ensures

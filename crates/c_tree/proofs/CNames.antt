@@ -1,9 +1,12 @@
--- Names in C keep apart the Scheme names that they are made of.
-use Rattle.std.proofs.Common.{◌≡◌, ℕ, ◌<◌, ◌≤◌, List, [], ◌∷◌, ◌++◌, Bool, true, false, refl, sym, ap, ◌∙◌, append_assoc, arith}
-use Rattle.std.specs.Prelude.{◌+◌, ◌/◌, ◌%◌, nat_lt, if◌then◌else◌}
-use Rattle.std.proofs.lemmas.Bool.{ltb-true, ltb-false}
-use Rattle.scheme_data.specs.Symbols.{IsName}
-use Rattle.c_tree.specs.Names.{is_alphanumeric, hex_digit, mangled, function_name, maker_name, initializer_name}
+-- Names in C are names of functions, and keep apart the Scheme names that they are made of.
+use Rattle.std.proofs.Common.{◌≡◌, ℕ, zero, suc, ◌<◌, ◌≤◌, List, [], ◌∷◌, ◌++◌, Bool, true, false, refl, sym, ap, ◌∙◌, append_assoc, arith}
+use Rattle.std.specs.Prelude.{◌+◌, ◌/◌, ◌%◌, nat_lt, if◌then◌else◌, IsTrue}
+use Rattle.std.specs.List.{list_all}
+use Rattle.std.proofs.lemmas.Bool.{ltb-true, ltb-false, and_parts}
+use Rattle.std.proofs.lemmas.Bool.Decides.{nat_tests}
+use Rattle.scheme_data.specs.Symbols.{is_symbol_byte, IsName}
+use Rattle.c_tree.specs.Names.{is_alphanumeric, hex_digit, mangled, function_name, maker_name, initializer_name, is_function_name}
+use Rattle.c_tree.proofs.NameShapes.{AreBytes, function_name-is_function_name, maker_name-is_function_name, initializer_name-is_function_name}
 
 -- Digits ------------------------------------------------------------------------------------
 
@@ -83,16 +86,36 @@ function_name_text : (m n : List ℕ) → function_name m n ≡ 102 ∷ 95 ∷ (
 unfolding function_name
 function_name_text m n = ap (λ bs. 102 ∷ 95 ∷ bs) (append_assoc (mangled m) (95 ∷ 95 ∷ []) (mangled n))
 
-pub function_name_parts : (m n k l : List ℕ) → IsName m → IsName n → IsName k → IsName l → function_name m n ≡ function_name k l → (m ≡ k) × (n ≡ l)
-function_name_parts m n k l is_m is_n is_k is_l e =
+pub function_name_parts : (m n k l : List ℕ) → function_name m n ≡ function_name k l → (m ≡ k) × (n ≡ l)
+function_name_parts m n k l e =
     let whole : 102 ∷ 95 ∷ (mangled m ++ 95 ∷ 95 ∷ mangled n) ≡ 102 ∷ 95 ∷ (mangled k ++ 95 ∷ 95 ∷ mangled l) = sym (function_name_text m n) ∙ e ∙ function_name_text k l in
     let f = fronts m k (mangled n) (mangled l) (cc whole) in
     (f.0, mangled_same n l f.1)
 
-pub maker_name_part : (m k : List ℕ) → IsName m → IsName k → maker_name m ≡ maker_name k → m ≡ k
+pub maker_name_part : (m k : List ℕ) → maker_name m ≡ maker_name k → m ≡ k
 unfolding maker_name
-maker_name_part m k is_m is_k e = mangled_same m k (cc e)
+maker_name_part m k e = mangled_same m k (cc e)
 
-pub initializer_name_part : (m k : List ℕ) → IsName m → IsName k → initializer_name m ≡ initializer_name k → m ≡ k
+pub initializer_name_part : (m k : List ℕ) → initializer_name m ≡ initializer_name k → m ≡ k
 unfolding initializer_name
-initializer_name_part m k is_m is_k e = mangled_same m k (cc e)
+initializer_name_part m k e = mangled_same m k (cc e)
+
+-- Functions' names --------------------------------------------------------------------------
+
+symbol_small : (b : ℕ) → is_symbol_byte b ≡ true → b < 256
+symbol_small b e = grind (arith, nat_tests)
+
+symbols_are_bytes : (bs : List ℕ) → list_all is_symbol_byte bs ≡ true → AreBytes bs
+symbols_are_bytes [] e i = omega arith
+symbols_are_bytes (b ∷ bs) e zero = symbol_small b (and_parts (is_symbol_byte b) (list_all is_symbol_byte bs) e).0
+symbols_are_bytes (b ∷ bs) e (suc i) = symbols_are_bytes bs (and_parts (is_symbol_byte b) (list_all is_symbol_byte bs) e).1 i
+
+pub named_function : (m n : List ℕ) → IsName m → IsName n → IsTrue (is_function_name (function_name m n))
+named_function m n of_module of_function =
+    function_name-is_function_name m n of_module.some of_function.some (symbols_are_bytes m of_module.bytes) (symbols_are_bytes n of_function.bytes)
+
+pub named_maker : (m : List ℕ) → IsName m → IsTrue (is_function_name (maker_name m))
+named_maker m is = maker_name-is_function_name m is.some (symbols_are_bytes m is.bytes)
+
+pub named_initializer : (m : List ℕ) → IsName m → IsTrue (is_function_name (initializer_name m))
+named_initializer m is = initializer_name-is_function_name m is.some (symbols_are_bytes m is.bytes)

@@ -1,7 +1,7 @@
 use Rattle.std.proofs.Common.{◌≡◌, ◌+◌, ◌-◌, ◌≤◌, length, drop}
 use Rattle.std.specs.List.{prefix_len}
 use Rattle.scheme_data.specs.Symbols.{is_symbol_byte}
-use Rattle.object_text.proofs.names.symbol_len.Given as goal
+use Rattle.scheme_data.proofs.symbol.symbol_len.Given as goal
 
 abbrev pub invariant-loop-n : goal.invariant-loop-n
 invariant-loop-n l = record {
