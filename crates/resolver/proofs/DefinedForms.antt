@@ -14,7 +14,7 @@ use Rattle.module_head.specs.Heads.{HeadTree, says}
 use Rattle.module_head.specs.Parts.{parts_of}
 use Rattle.resolver.specs.declared.definitions.Definition.{Definition}
 use Rattle.resolver.specs.declared.tops.TopForm.{TopForm}
-use Rattle.resolver.specs.Drafts.{body, onto, expression, expressions, names, named, prototype, definition, Defines, Evaluates, top_form, onto_tops, tops, definitions_in, evaluated_in, defined, onto_functions, functions, top_scope, draft_with, draft_in}
+use Rattle.resolver.specs.Drafts.{body, onto, expression, expressions, definition, Defines, Evaluates, top_form, onto_tops, tops, definitions_in, evaluated_in, defined, onto_functions, functions, top_scope, draft_with, draft_in}
 use Rattle.resolver.specs.Drafts as drafts
 use Rattle.resolver.specs.Parts.{definition_of, top_of, numbered_from, param_count, function_at, Builds}
 use Rattle.module_head.proofs.Layers.{listed_is}

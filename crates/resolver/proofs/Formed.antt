@@ -1,6 +1,7 @@
 -- The module of a source of proper data is well formed, and its interface has a spelling.
 use Rattle.std.proofs.Common.{◌≡◌, ℕ, true, List, [], map, length, Option, Some, None, refl, sym, ap, ◌∙◌}
 use Rattle.std.proofs.lemmas.List.{length-map}
+use Rattle.scheme_data.specs.Names.{are_distinct}
 use Rattle.scheme_data.specs.Data.{Plains, AreProper}
 use Rattle.iface_text.specs.Format.{IfaceTree, HasSpelling}
 use Rattle.core_tree.specs.declared.tree.Use.{Use}

@@ -2,7 +2,7 @@
 use Rattle.std.proofs.Common.{◌≡◌, ℕ, ◌+◌, ◌<◌, Bool, true, false, not, ◌&&◌, if◌then◌else◌, nat_eq, codes, List, [], ◌∷◌, ◌++◌, map, length, slice_get, Option, Some, None, refl, sym, ap, ◌∙◌, arith}
 use Rattle.std.specs.List.{list_any, list_all}
 use Rattle.std.proofs.lemmas.Bool.{and_parts}
-use Rattle.scheme_data.specs.Names.{are_distinct}
+use Rattle.scheme_data.specs.Names.{is_same, are_distinct}
 use Rattle.scheme_data.specs.Data.{Plain, Number, Character, Truth, Unspecified, String, Symbol, Listed, Dotted, Vector, Plains, none, more, IsProper, AreProper}
 use Rattle.scheme_data.specs.Symbols.{IsName}
 use Rattle.name_table.specs.Names.{has_name}
@@ -12,7 +12,10 @@ use Rattle.core_tree.specs.Tree.{Tree, Trees, FunctionTree, ModuleTree, function
 use Rattle.core_tree.specs.WellFormed.{IsFound, IsBody, IsFunction, AreFunctions}
 use Rattle.core_tree.specs.WellFormed as formed
 use Rattle.resolver.specs.Names.{is_primitive_name, is_defined_name}
-use Rattle.resolver.specs.Drafts.{Scope, expressions, body, Definition, names, named, prototype, definition, TopForm, Defines, Evaluates, begins_definition, defining, top_form, onto_tops, tops, definitions_in, evaluated_in, variables, defined, onto_functions, scope_of, functions, top_scope, function_names, imported_names, outside_in_tops, with_first, outside_of, definition_named, takes_as_many, is_there, has_main, agrees, Draft, draft_with, draft_in, draft_of, draft}
+use Rattle.resolver.specs.Drafts.{Scope, expressions, body, Definition, names, named, prototype, definition, TopForm, Defines, Evaluates, begins_definition, defining, top_form, onto_tops, tops, definitions_in, evaluated_in, variables, defined, onto_functions, scope_of, functions, top_scope, function_names, imported_names, outside_in_tops, outside_of, definition_named, takes_as_many, is_there, has_main, agrees, Draft, draft_with, draft_in, draft_of, draft}
+use Rattle.resolver.specs.Firsts.{firsts}
+use Rattle.resolver.specs.Parts.{with_first}
+use Rattle.resolver.proofs.Firsts.{names_first}
 use Rattle.resolver.proofs.FormedParts.{Holds, where_true}
 use Rattle.resolver.proofs.FormedHeads.{symbol_named, IsRight, head_formed}
 use Rattle.resolver.proofs.FormedExpressions.{body_formed}
@@ -172,13 +175,16 @@ take_as_many (d ∷ ds) (f ∷ fs) h n name =
 
 -- Sources -----------------------------------------------------------------------------------
 
-first_distinct : (xs seen : List (List ℕ)) → are_distinct seen ≡ true → are_distinct (with_first seen xs) ≡ true
+first_distinct : (xs seen : List (List ℕ)) → are_distinct seen ≡ true → are_distinct (with_first is_same seen xs) ≡ true
 first_distinct [] seen d = d
 first_distinct (x ∷ xs) seen d = first_distinct xs (if has_name seen x then seen else seen ++ x ∷ []) (go (has_name seen x) refl)
   where
     go : (b : Bool) → has_name seen x ≡ b → are_distinct (if b then seen else seen ++ x ∷ []) ≡ true
     go true e = d
     go false e = added seen x d e
+
+firsts_distinct : (xs : List (List ℕ)) → are_distinct (firsts is_same xs) ≡ true
+firsts_distinct xs = ap are_distinct (sym (names_first xs)) ∙ first_distinct xs [] refl
 
 -- the definitions and the expressions of a draft, and what agrees with its head
 pub record IsDraft (d : Draft) : Type 0 where
@@ -207,7 +213,7 @@ draft_with_formed h ts (Some fs) (Some es) e f p q a =
     let last = and_parts (list_all (is_there ds) h.exports) (has_main h.main ds) parts.1 in
     record {
       head = p;
-      outside = first_distinct (outside_in_tops (imported_names h.imports) (function_names ds) ts) [] refl;
+      outside = firsts_distinct (outside_in_tops (imported_names h.imports) (function_names ds) ts);
       source = ds;
       formed = definitions_formed ts q;
       distinct = first.1;

@@ -14,7 +14,10 @@ use Rattle.core_tree.specs.declared.tree.Use.{Use}
 use Rattle.core_tree.specs.declared.tree.Use.TheVariants.{From, Need}
 use Rattle.core_tree.specs.Tree.{ModuleTree, found_use}
 use Rattle.core_tree.specs.WellFormed.{IsFound, AreImports, module_of, row_of, takes, AreUses, same_use, each_once, is_need, are_ordered}
-use Rattle.resolver.specs.Elaboration.{AreSpelled, row_for, onto, both, from, need, from_item, offered, calls, item_needs, needs, with_first_uses, each_use_once, import_item}
+use Rattle.resolver.specs.Elaboration.{AreSpelled, row_for, onto, both, from, need, from_item, offered, calls, item_needs, needs, each_use_once, import_item}
+use Rattle.resolver.specs.Firsts.{firsts}
+use Rattle.resolver.specs.Parts.{with_first}
+use Rattle.resolver.proofs.Firsts.{uses_first}
 use Rattle.resolver.proofs.FormedParts.{Holds, word_is, itself, turned}
 use Rattle.resolver.proofs.FormedHeads.{AreItems}
 use Rattle.resolver.proofs.FormedRows.{IsRowOf, row_formed}
@@ -181,7 +184,7 @@ use_added (w ∷ us) u d n =
     list_any-append (same_use w) us (u ∷ []) ∙ or_from (list_any (same_use w) us) (same_use w u || false) (not-true (list_any (same_use w) us) old.0) (or_from (same_use w u) false other refl) in
     ap (λ b. not b && each_once (us ++ u ∷ [])) absent ∙ use_added us u old.1 new.1
 
-first_once : (us seen : List Use) → each_once seen ≡ true → each_once (with_first_uses seen us) ≡ true
+first_once : (us seen : List Use) → each_once seen ≡ true → each_once (with_first same_use seen us) ≡ true
 first_once [] seen d = d
 first_once (u ∷ us) seen d = first_once us (if list_any (same_use u) seen then seen else seen ++ u ∷ []) (go (list_any (same_use u) seen) refl)
   where
@@ -193,7 +196,7 @@ more_given : (is : List ImportTree) (us vs : List Use) → AreGiven is us → Ar
 more_given is [] vs h k = k
 more_given is (u ∷ us) vs h k = (h.0, more_given is us vs h.1 k)
 
-first_given : (is : List ImportTree) (us seen : List Use) → AreGiven is us → AreGiven is seen → AreGiven is (with_first_uses seen us)
+first_given : (is : List ImportTree) (us seen : List Use) → AreGiven is us → AreGiven is seen → AreGiven is (with_first same_use seen us)
 first_given is [] seen h k = k
 first_given is (u ∷ us) seen h k = first_given is us (if list_any (same_use u) seen then seen else seen ++ u ∷ []) h.1 (go (list_any (same_use u) seen))
   where
@@ -202,12 +205,12 @@ first_given is (u ∷ us) seen h k = first_given is us (if list_any (same_use u)
     go false = more_given is seen (u ∷ []) k (h.0, tt)
 
 -- uses that stand once stay as they are
-first_same : (us seen vs : List Use) → each_once (seen ++ us) ≡ true → with_first_uses seen (us ++ vs) ≡ with_first_uses (seen ++ us) vs
-first_same [] seen vs d = ap (λ seen. with_first_uses seen vs) (sym (append-nil seen))
+first_same : (us seen vs : List Use) → each_once (seen ++ us) ≡ true → with_first same_use seen (us ++ vs) ≡ with_first same_use (seen ++ us) vs
+first_same [] seen vs d = ap (λ seen. with_first same_use seen vs) (sym (append-nil seen))
 first_same (u ∷ us) seen vs d =
-    ap (λ b. with_first_uses (if b then seen else seen ++ u ∷ []) (us ++ vs)) (use_before seen u us d)
+    ap (λ b. with_first same_use (if b then seen else seen ++ u ∷ []) (us ++ vs)) (use_before seen u us d)
     ∙ first_same us (seen ++ u ∷ []) vs (ap each_once (append_assoc seen (u ∷ []) us) ∙ d)
-    ∙ ap (λ seen. with_first_uses seen vs) (append_assoc seen (u ∷ []) us)
+    ∙ ap (λ seen. with_first same_use seen vs) (append_assoc seen (u ∷ []) us)
 
 -- these, and needs behind them
 record NeedsBehind (seen us : List Use) : Type 0 where
@@ -215,10 +218,10 @@ record NeedsBehind (seen us : List Use) : Type 0 where
   pub are : us ≡ seen ++ rest
   pub needs : list_all is_need rest ≡ true
 
-first_needs : (is : List ImportTree) (vs seen : List Use) → AreNeeds is vs → NeedsBehind seen (with_first_uses seen vs)
+first_needs : (is : List ImportTree) (vs seen : List Use) → AreNeeds is vs → NeedsBehind seen (with_first same_use seen vs)
 first_needs is [] seen h = record { rest = []; are = sym (append-nil seen); needs = refl }
 first_needs is (v ∷ vs) seen h =
-    go (list_any (same_use v) seen) (with_first_uses seen (v ∷ vs)) (first_needs is vs (if list_any (same_use v) seen then seen else seen ++ v ∷ []) h.1)
+    go (list_any (same_use v) seen) (with_first same_use seen (v ∷ vs)) (first_needs is vs (if list_any (same_use v) seen then seen else seen ++ v ∷ []) h.1)
   where
     go : (b : Bool) (us : List Use) → NeedsBehind (if b then seen else seen ++ v ∷ []) us → NeedsBehind seen us
     go true us k = k
@@ -289,16 +292,17 @@ pub record AreTaken (is : List ImportTree) (xs : List (List ℕ)) (us : List Use
   pub ordered : are_ordered us ≡ true
   pub called : (n : ℕ) → n < length xs → IsFound (found_use (slice_get us n))
 
-taken_together : (is : List ImportTree) (xs : List (List ℕ)) (us vs : List Use) → AreCalls is xs us → AreNeeds is vs → are_distinct xs ≡ true → AreTaken is xs (with_first_uses [] (us ++ vs))
+taken_together : (is : List ImportTree) (xs : List (List ℕ)) (us vs : List Use) → AreCalls is xs us → AreNeeds is vs → are_distinct xs ≡ true → AreTaken is xs (firsts same_use (us ++ vs))
 taken_together is xs us vs h k d =
-    let behind : NeedsBehind us (with_first_uses us vs) = first_needs is vs us k in
-    let all : with_first_uses [] (us ++ vs) ≡ us ++ behind.rest = first_same us [] vs (calls_once is xs us h d) ∙ behind.are in
-    record {
+    let behind : NeedsBehind us (with_first same_use us vs) = first_needs is vs us k in
+    let all : with_first same_use [] (us ++ vs) ≡ us ++ behind.rest = first_same us [] vs (calls_once is xs us h d) ∙ behind.are in
+    subst (AreTaken is xs) (uses_first (us ++ vs))
+    (record {
       given = first_given is (us ++ vs) [] (more_given is us vs (calls_given is xs us h) (needs_given is vs k)) tt;
       once = first_once (us ++ vs) [] refl;
       ordered = ap are_ordered all ∙ calls_ordered is xs us behind.rest h behind.needs;
       called = λ n l. subst (λ us. IsFound (found_use (slice_get us n))) (sym all) (calls_found is xs us behind.rest h n l);
-    }
+    })
 
 taken_both : (is : List ImportTree) (xs : List (List ℕ)) (o p : Option (List Use)) → Holds (AreCalls is xs) o → Holds (AreNeeds is) p → are_distinct xs ≡ true
     → Holds (AreTaken is xs) (each_use_once (both o p))

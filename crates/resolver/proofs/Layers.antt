@@ -1,15 +1,11 @@
 -- Nodes, one layer at a time.
-use Rattle.std.proofs.Common.{◌≡◌, List, [], ◌∷◌, map, Some, refl, sym, ap, ◌∙◌, rules}
-use Rattle.scheme_data.specs.Data.{Plain, Number, Character, Truth, Unspecified, String, Symbol, Listed, Dotted, Vector, Plains, more, plains, plain, plain_all}
-use Rattle.scheme_data.specs.declared.datum.Place.{Place}
-use Rattle.scheme_data.specs.declared.datum.Datum.{Datum}
+use Rattle.std.proofs.Common.{◌≡◌, List, map, rules}
 use Rattle.scheme_data.specs.declared.datum.Datum as data_of
 use Rattle.scheme_data.specs.declared.datum.Datum.TheVariants as datum
 use Rattle.core_tree.specs.declared.tree.Node.{Node}
 use Rattle.core_tree.specs.declared.tree.Node as node_of
 use Rattle.core_tree.specs.declared.tree.Node.TheVariants as node
 use Rattle.core_tree.specs.Tree.{If, Sequence, trees, tree}
-use Rattle.module_head.specs.Parts.{parts_of}
 
 pub tree_if : (a b c : Node) → tree (node.If a b c) ≡ If (tree a) (tree b) (tree c)
 tree_if a b c = search (rules, node_of.the_lemmas)

@@ -2,6 +2,7 @@ pub mod Agreements
 pub mod Calls
 pub mod DefinedForms
 pub mod FirstSight
+pub mod Firsts
 pub mod Formed
 pub mod FormedDrafts
 pub mod FormedExpressions

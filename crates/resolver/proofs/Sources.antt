@@ -1,24 +1,26 @@
 -- Drafts of sources, by the parts that were read.
 use Rattle.std.proofs.Common.{◌≡◌, ℕ, ◌≤◌, Bool, true, if◌then◌else◌, List, [], ◌∷◌, length, get_or, Option, Some, None, Result, IfOk, sym, ap, subst, ◌∙◌, arith}
 use Rattle.std.specs.Option.{option_map}
+use Rattle.scheme_data.specs.Names.{is_same}
 use Rattle.scheme_data.specs.Data.{plain, plain_all}
 use Rattle.scheme_data.specs.declared.datum.Datum.{Datum}
 use Rattle.module_head.specs.Heads.{HeadTree, head_of}
 use Rattle.resolver.specs.declared.drafts.Draft.{Draft}
-use Rattle.resolver.specs.Drafts.{TopForm, tops, definitions_in, function_names, imported_names, outside_in_tops, with_first, outside_of, agrees, draft_in, draft_of, draft}
+use Rattle.resolver.specs.Drafts.{TopForm, tops, definitions_in, function_names, imported_names, outside_in_tops, outside_of, agrees, draft_in, draft_of, draft}
 use Rattle.resolver.specs.Drafts as drafts
-use Rattle.resolver.specs.Parts.{draft_tree, distinct}
+use Rattle.resolver.specs.Parts.{draft_tree, distinct, with_first}
 use Rattle.resolver.proofs.Agreements.{listed_names}
+use Rattle.resolver.proofs.Firsts.{names_first}
 use Rattle.resolver.proofs.Calls.{rest_of}
 use Rattle.resolver.proofs.Lists.{rest_is}
 
 pub draft_is : (h : HeadTree) (ts : List TopForm) (names outside : List (List ℕ)) (t : Bool) (o : Option drafts.Draft) → Some names ≡ distinct (Some (function_names (definitions_in ts)))
-    → t ≡ agrees h (definitions_in ts) → t ≡ true → outside ≡ with_first [] (outside_in_tops (imported_names h.imports) names ts) → o ≡ draft_in h names outside ts
+    → t ≡ agrees h (definitions_in ts) → t ≡ true → outside ≡ with_first is_same [] (outside_in_tops (imported_names h.imports) names ts) → o ≡ draft_in h names outside ts
     → o ≡ draft_of (Some h) (Some ts)
 draft_is h ts names outside t o n a e s d =
     let all : List (List ℕ) = function_names (definitions_in ts) in
     let same : names ≡ all = listed_names names (function_names (definitions_in ts)) n in
-    let called : outside ≡ outside_of h ts = s ∙ ap (λ names. with_first [] (outside_in_tops (imported_names h.imports) names ts)) same in
+    let called : outside ≡ outside_of h ts = s ∙ ap (λ names. with_first is_same [] (outside_in_tops (imported_names h.imports) names ts)) same ∙ names_first (outside_in_tops (imported_names h.imports) all ts) in
     d ∙ ap (λ names. draft_in h names outside ts) same ∙ ap (λ outside. draft_in h (function_names (definitions_in ts)) outside ts) called
     ∙ sym (ap (λ t. if t then draft_in h (function_names (definitions_in ts)) (outside_of h ts) ts else None) (sym a ∙ e))
 

@@ -16,7 +16,8 @@ use Rattle.module_head.specs.Heads.{ImportTree, is_word}
 use Rattle.core_tree.specs.declared.tree.Use.{Use}
 use Rattle.core_tree.specs.declared.tree.Use.TheVariants.{From, Need}
 use Rattle.core_tree.specs.WellFormed.{module_of, row_of, same_use}
-use Rattle.resolver.specs.Elaboration.{onto, both, from, need, from_item, row_for, offered, calls, item_needs, needs, with_first_uses, each_use_once}
+use Rattle.resolver.specs.Elaboration.{onto, both, from, need, from_item, row_for, offered, calls, item_needs, needs, each_use_once}
+use Rattle.resolver.specs.Parts.{with_first}
 use Rattle.resolver.specs.UseTables.{Key, is_key, OfferSameRows, module_at, HasModules, TakesItem}
 use Rattle.resolver.specs.TakenRows.{use_of}
 use Rattle.resolver.specs.declared.uses.Taken.{Taken}
@@ -98,7 +99,7 @@ is_use k u = is_same k.0.now (module_of u) && is_same k.1.now (row_of u).name
 -- the first i have been seen
 pub record AreSeen (taken : List Taken) (i : ℕ) (seen : List (Key × Key)) (us : List Use) : Type 0 where
   pub each : (k : Key × Key) → list_any (same_pair k) seen ≡ list_any (is_use k) us
-  pub done : with_first_uses [] (map use_of taken) ≡ with_first_uses us (map use_of (drop i taken))
+  pub done : with_first same_use [] (map use_of taken) ≡ with_first same_use us (map use_of (drop i taken))
 
 module_of-use : (m : List ℕ) (r : Row) (b : Bool) → module_of (if b then From m r else Need m r) ≡ m
 module_of-use m r true = refl
@@ -143,8 +144,8 @@ seen_again taken i t k seen after us within is p had kept grown =
     record {
       each = λ q. ap (list_any (same_pair q)) same ∙ had.each q;
       done =
-          had.done ∙ ap (λ l. with_first_uses us (map use_of l)) (here taken i t within is)
-          ∙ ap (λ b. with_first_uses (if b then us else us ++ use_of t ∷ []) (map use_of (drop (i + 1) taken))) (seen_is seen us k t p had.each ∙ there);
+          had.done ∙ ap (λ l. with_first same_use us (map use_of l)) (here taken i t within is)
+          ∙ ap (λ b. with_first same_use (if b then us else us ++ use_of t ∷ []) (map use_of (drop (i + 1) taken))) (seen_is seen us k t p had.each ∙ there);
     }
 
 pub seen_first : (taken : List Taken) (i : ℕ) (t : Taken) (k : Key × Key) (seen after : List (Key × Key)) (us new : List Use) → i < length taken → t ≡ get_or taken i t → IsPair k t → AreSeen taken i seen us → not (list_any (same_pair k) seen) ≡ true → after ≡ (if list_any (same_pair k) seen then seen else seen ++ k ∷ []) → new ≡ us ++ use_of t ∷ [] → AreSeen taken (i + 1) after new
@@ -160,9 +161,9 @@ seen_first taken i t k seen after us new within is p had put grown added =
           ∙ sym (list_any-append (is_use q) us (use_of t ∷ []))
           ∙ ap (list_any (is_use q)) (sym added);
       done =
-          had.done ∙ ap (λ l. with_first_uses us (map use_of l)) (here taken i t within is)
-          ∙ ap (λ b. with_first_uses (if b then us else us ++ use_of t ∷ []) (map use_of (drop (i + 1) taken))) (seen_is seen us k t p had.each ∙ absent)
-          ∙ ap (λ l. with_first_uses l (map use_of (drop (i + 1) taken))) (sym added);
+          had.done ∙ ap (λ l. with_first same_use us (map use_of l)) (here taken i t within is)
+          ∙ ap (λ b. with_first same_use (if b then us else us ++ use_of t ∷ []) (map use_of (drop (i + 1) taken))) (seen_is seen us k t p had.each ∙ absent)
+          ∙ ap (λ l. with_first same_use l (map use_of (drop (i + 1) taken))) (sym added);
     }
 
 -- Interfaces with the same rows -------------------------------------------------------------

@@ -1,7 +1,7 @@
 -- What a source says by itself: its head, its definitions and its other forms, where each function of another module stands for its place among those that are called, in order of first use.
 use Rattle.std.specs.Prelude.{ℕ, suc, ◌+◌, List, [], ◌∷◌, ◌++◌, map, length, codes, nat_eq, Bool, true, false, not, ◌&&◌, if◌then◌else◌, Option, Some, None}
 use Rattle.std.specs.List.{list_all, list_any}
-use Rattle.scheme_data.specs.Names.{are_distinct}
+use Rattle.scheme_data.specs.Names.{is_same, are_distinct}
 use Rattle.scheme_data.specs.Data.{Plain, Number, Truth, Symbol, Listed, Plains, none, more}
 use Rattle.built_table.specs.declared.primitives.Primitive.{Primitive as Builtin}
 use Rattle.built_table.specs.Table.{prim_named, params_of}
@@ -17,6 +17,7 @@ use Rattle.core_tree.specs.declared.tree.GlobalRef.TheVariants.{Own, Used}
 use Rattle.core_tree.specs.Tree.{Tree, Constant, Variable, If, Sequence, Call, Primitive, Trees, FunctionTree}
 use Rattle.core_tree.specs.Tree as tree
 use Rattle.resolver.specs.Names.{is_primitive_name, is_special, is_defined_name, is_bound_name}
+use Rattle.resolver.specs.Firsts.{firsts}
 
 -- Expressions -------------------------------------------------------------------------------
 
@@ -249,14 +250,9 @@ outside_in_tops imported all [] = []
 outside_in_tops imported all (Defines d ∷ ts) = outside_in_all imported all d.params d.body ++ outside_in_tops imported all ts
 outside_in_tops imported all (Evaluates d ∷ ts) = outside_in imported all [] d ++ outside_in_tops imported all ts
 
--- each name once, in order of first sight, after those that were seen
-abbrev pub with_first : List (List ℕ) → List (List ℕ) → List (List ℕ)
-with_first seen [] = seen
-with_first seen (x ∷ xs) = with_first (if has_name seen x then seen else seen ++ x ∷ []) xs
-
 -- the names of other modules' functions that are called, in order of first use
 abbrev pub outside_of : HeadTree → List TopForm → List (List ℕ)
-outside_of h ts = with_first [] (outside_in_tops (imported_names h.imports) (function_names (definitions_in ts)) ts)
+outside_of h ts = firsts is_same (outside_in_tops (imported_names h.imports) (function_names (definitions_in ts)) ts)
 
 -- Sources -----------------------------------------------------------------------------------
 

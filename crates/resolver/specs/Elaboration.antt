@@ -1,6 +1,5 @@
 -- The tree of a module, from its source and the interfaces with which it is compiled.
-use Rattle.std.specs.Prelude.{ℕ, List, [], ◌∷◌, ◌++◌, map, find, if◌then◌else◌, Option, Some, None}
-use Rattle.std.specs.List.{list_any}
+use Rattle.std.specs.Prelude.{ℕ, List, [], ◌∷◌, ◌++◌, map, find, Option, Some, None}
 use Rattle.scheme_data.specs.Data.{Plains}
 use Rattle.name_table.specs.Names.{has_name}
 use Rattle.iface_text.specs.declared.interface.Row.{Row}
@@ -12,6 +11,7 @@ use Rattle.core_tree.specs.declared.tree.Use.TheVariants.{From, Need}
 use Rattle.core_tree.specs.Tree.{ModuleTree}
 use Rattle.core_tree.specs.WellFormed.{same_use}
 use Rattle.resolver.specs.Drafts.{Draft, draft, exported_rows}
+use Rattle.resolver.specs.Firsts.{firsts}
 
 abbrev pub AreSpelled : List IfaceTree → Type 0
 AreSpelled [] = Unit {0}
@@ -74,14 +74,10 @@ module _ (ifaces : List IfaceTree) where
   needs [] = Some []
   needs (i ∷ is) = both (item_needs i.module_name i.names) (needs is)
 
--- each name of a module once, in order of first sight, after those that were seen
-abbrev pub with_first_uses : List Use → List Use → List Use
-with_first_uses seen [] = seen
-with_first_uses seen (u ∷ us) = with_first_uses (if list_any (same_use u) seen then seen else seen ++ u ∷ []) us
-
+-- each name of a module once, where it comes first
 abbrev pub each_use_once : Option (List Use) → Option (List Use)
 each_use_once None = None
-each_use_once (Some us) = Some (with_first_uses [] us)
+each_use_once (Some us) = Some (firsts same_use us)
 
 -- what a source calls of other modules, in order of first use, and then what it imports and doesn't call, in clause order
 abbrev pub uses : List IfaceTree → Draft → Option (List Use)

@@ -1,5 +1,6 @@
 pub mod Drafts
 pub mod Elaboration
+pub mod Firsts
 pub mod Names
 pub mod Parts
 pub mod Rows

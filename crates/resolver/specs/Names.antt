@@ -1,11 +1,12 @@
 -- Names that may be defined, bound or imported, and the words of special forms.
-use Rattle.std.specs.Prelude.{ℕ, List, [], ◌∷◌, codes, Bool, not, ◌&&◌, ◌||◌}
+use Rattle.std.specs.Prelude.{ℕ, is_some, List, [], ◌∷◌, codes, Bool, not, ◌&&◌, ◌||◌}
 use Rattle.std.specs.List.{list_any}
+use Rattle.built_table.specs.Table.{prim_named}
 use Rattle.module_head.specs.Heads.{is_word, has_type}
 
--- the primitives are neither defined, bound nor imported
+-- the primitives that are built are neither defined, bound nor imported
 abbrev pub is_primitive_name : List ℕ → Bool
-is_primitive_name name = is_word name (codes "+") || (is_word name (codes "<") || (is_word name (codes "display") || is_word name (codes "newline")))
+is_primitive_name name = is_some (prim_named name)
 
 -- the words of special forms are not defined
 abbrev pub core_forms : List (List ℕ)

@@ -1,5 +1,6 @@
 -- What the parts of the resolver give.
-use Rattle.std.specs.Prelude.{◌≡◌, ℕ, zero, suc, List, [], ◌∷◌, map, length, Option, Some, None, if◌then◌else◌}
+use Rattle.std.specs.Prelude.{◌≡◌, ℕ, zero, suc, List, [], ◌∷◌, ◌++◌, map, length, Bool, Option, Some, None, if◌then◌else◌}
+use Rattle.std.specs.List.{list_any}
 use Rattle.scheme_data.specs.Names.{are_distinct}
 use Rattle.scheme_data.specs.Data.{plain, plain_all}
 use Rattle.module_head.specs.declared.head.Head.{Head}
@@ -47,6 +48,11 @@ draft_tree d = draft_from d.head d.outside d.tops
 abbrev pub distinct : Option (List (List ℕ)) → Option (List (List ℕ))
 distinct None = None
 distinct (Some xs) = if are_distinct xs then Some xs else None
+
+-- each element once, where it comes first, behind those that were seen
+abbrev pub with_first : {X : Type 0} → (X → X → Bool) → List X → List X → List X
+with_first same seen [] = seen
+with_first same seen (x ∷ xs) = with_first same (if list_any (same x) seen then seen else seen ++ x ∷ []) xs
 
 -- so many variables, in order of their numbers
 abbrev pub numbered_from : ℕ → ℕ → List VarId

@@ -1,9 +1,11 @@
 // The names that a module imports.
 ghost use Rattle.std.specs.Prelude.{◌≡◌, [], map, IfOk};
 ghost use Rattle.std.specs.List.{list_any};
+ghost use Rattle.scheme_data.specs.Names.{is_same};
 ghost use Rattle.module_head.specs.Trees.{import_tree};
 ghost use Rattle.resolver.specs.Names.{is_primitive_name};
-ghost use Rattle.resolver.specs.Drafts.{imported_names, with_first};
+ghost use Rattle.resolver.specs.Drafts.{imported_names};
+ghost use Rattle.resolver.specs.Parts.{with_first};
 
 use crate::names::names_primitive;
 use module_head::Import;
@@ -32,7 +34,7 @@ pub fn import_primitive(imports: &[Import]) -> bool
 
 /// Puts names at the end of a table, each where it isn't there yet.
 fn add_names(table: &mut NameTable, names: &[Text]) -> Result<(), OutOfMemory>
-    ensures { IfOk result (λ done. table.new ≡ with_first table.old names.now) }
+    ensures { IfOk result (λ done. table.new ≡ with_first is_same table.old names.now) }
 {
     for name in names {
         table.insert(name.as_bytes())?;
@@ -42,7 +44,7 @@ fn add_names(table: &mut NameTable, names: &[Text]) -> Result<(), OutOfMemory>
 
 /// The names that items import, each once, in order of first sight.
 pub fn imported_names(alloc: Global, imports: &[Import]) -> Result<NameTable, OutOfMemory>
-    ensures { IfOk result (λ names. names ≡ with_first [] (imported_names (map import_tree imports.now))) }
+    ensures { IfOk result (λ names. names ≡ with_first is_same [] (imported_names (map import_tree imports.now))) }
 {
     let mut table = NameTable::new(alloc);
     for item in imports {

@@ -4,16 +4,14 @@ ghost use Rattle.std.specs.List.{list_any};
 ghost use Rattle.module_head.specs.Heads.{is_word};
 ghost use Rattle.resolver.specs.Names.{is_primitive_name, core_forms, derived_forms, top_forms, is_special, is_defined_name, is_bound_name};
 
+use built_table::prim_by_name;
 use module_head::{name_has_type, name_is};
 
-/// Whether it is a primitive's name.
+/// Whether it is the name of a primitive that is built.
 pub fn names_primitive(name: &[u8]) -> bool
     ensures { result ≡ is_primitive_name name.now }
 {
-    name_is(name, b"+")
-        || name_is(name, b"<")
-        || name_is(name, b"display")
-        || name_is(name, b"newline")
+    prim_by_name(name).is_some()
 }
 
 fn names_core_form(name: &[u8]) -> bool

@@ -1,10 +1,11 @@
 // The names of other modules' functions that a module calls.
 ghost use Rattle.std.specs.Prelude.{◌≡◌, [], map, IfOk};
+ghost use Rattle.scheme_data.specs.Names.{is_same};
 ghost use Rattle.scheme_data.specs.Data.{plain, plain_all};
 ghost use Rattle.module_head.specs.Heads.{symbol_of};
 ghost use Rattle.module_head.specs.Trees.{import_tree};
-ghost use Rattle.resolver.specs.Drafts.{imported_names, is_outside, outside_name, outside_in, outside_in_all, outside_in_tops, with_first};
-ghost use Rattle.resolver.specs.Parts.{top_of, outside_in_top};
+ghost use Rattle.resolver.specs.Drafts.{imported_names, is_outside, outside_name, outside_in, outside_in_all, outside_in_tops};
+ghost use Rattle.resolver.specs.Parts.{top_of, with_first, outside_in_top};
 
 use crate::imports::imported_names;
 use crate::names::names_special_form;
@@ -35,7 +36,7 @@ impl Outside<'_> {
 
     /// Puts what stands first in a form at the end of a table, where it is such a name and isn't there yet.
     fn add(&self, d: &Datum, names: &mut NameTable) -> Result<(), OutOfMemory>
-        ensures { IfOk result (λ done. names.new ≡ with_first names.old (outside_name self.now.imported.now self.now.functions.now self.now.params.now (symbol_of (plain d.now)))) }
+        ensures { IfOk result (λ done. names.new ≡ with_first is_same names.old (outside_name self.now.imported.now self.now.functions.now self.now.params.now (symbol_of (plain d.now)))) }
     {
         let Some(name) = symbol(d) else {
             return Ok(());
@@ -49,7 +50,7 @@ impl Outside<'_> {
     /// Puts the names in a form at the end of a table, from left to right, each where it isn't there yet.
     #[cycle(collect)]
     fn collect(&self, d: &Datum, names: &mut NameTable) -> Result<(), OutOfMemory>
-        ensures { IfOk result (λ done. names.new ≡ with_first names.old (outside_in self.now.imported.now self.now.functions.now self.now.params.now (plain d.now))) }
+        ensures { IfOk result (λ done. names.new ≡ with_first is_same names.old (outside_in self.now.imported.now self.now.functions.now self.now.params.now (plain d.now))) }
     {
         let Datum::List(_, ds) = d else {
             return Ok(());
@@ -63,7 +64,7 @@ impl Outside<'_> {
 
     #[cycle(collect)]
     fn collect_all(&self, ds: &[Datum], names: &mut NameTable) -> Result<(), OutOfMemory>
-        ensures { IfOk result (λ done. names.new ≡ with_first names.old (outside_in_all self.now.imported.now self.now.functions.now self.now.params.now (plain_all ds.now))) }
+        ensures { IfOk result (λ done. names.new ≡ with_first is_same names.old (outside_in_all self.now.imported.now self.now.functions.now self.now.params.now (plain_all ds.now))) }
     {
         for d in ds {
             self.collect(d, names)?;
@@ -80,7 +81,7 @@ fn collect_top(
     top: &TopForm<'_>,
     names: &mut NameTable,
 ) -> Result<(), OutOfMemory>
-    ensures { IfOk result (λ done. names.new ≡ with_first names.old (outside_in_top imported.now functions.now (top_of top.now))) }
+    ensures { IfOk result (λ done. names.new ≡ with_first is_same names.old (outside_in_top imported.now functions.now (top_of top.now))) }
 {
     match top {
         TopForm::Define(d) => {
@@ -109,7 +110,7 @@ pub fn outside_names(
     functions: &NameTable,
     tops: &[TopForm<'_>],
 ) -> Result<NameTable, OutOfMemory>
-    ensures { IfOk result (λ names. names ≡ with_first [] (outside_in_tops (imported_names (map import_tree imports.now)) functions.now (map top_of tops.now))) }
+    ensures { IfOk result (λ names. names ≡ with_first is_same [] (outside_in_tops (imported_names (map import_tree imports.now)) functions.now (map top_of tops.now))) }
 {
     let imported = imported_names(alloc, imports)?;
     let mut names = NameTable::new(alloc);

@@ -3,7 +3,9 @@ ghost use Rattle.std.specs.Prelude.{◌≡◌, [], map, if◌then◌else◌, Som
 ghost use Rattle.std.specs.Option.{option_map};
 ghost use Rattle.iface_text.specs.Format.{iface_tree};
 ghost use Rattle.module_head.specs.Trees.{import_tree, head_tree};
-ghost use Rattle.resolver.specs.Elaboration.{both, calls, item_needs, needs, with_first_uses, each_use_once};
+ghost use Rattle.core_tree.specs.WellFormed.{same_use};
+ghost use Rattle.resolver.specs.Elaboration.{both, calls, item_needs, needs, each_use_once};
+ghost use Rattle.resolver.specs.Parts.{with_first};
 ghost use Rattle.resolver.specs.UseTables.{HasModules, TakesItem};
 ghost use Rattle.resolver.specs.TakenRows.{use_of};
 
@@ -133,7 +135,7 @@ fn add_all_needs<'a>(
 
 /// Each name of a module once, in order of first sight.
 fn each_once(alloc: Global, taken: &[Taken<'_>]) -> Result<List<Use>, OutOfMemory>
-    ensures { IfOk result (λ us. us ≡ with_first_uses [] (map use_of taken.now)) }
+    ensures { IfOk result (λ us. us ≡ with_first same_use [] (map use_of taken.now)) }
 {
     let mut seen = IndexSet::new(alloc);
     let mut uses = List::new(alloc);

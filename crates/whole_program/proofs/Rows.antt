@@ -1,8 +1,9 @@
 -- A module is the same with other interfaces that have the rows of its uses.
-use Rattle.std.proofs.Common.{◌≡◌, ℕ, Bool, true, false, if◌then◌else◌, List, [], ◌∷◌, ◌++◌, map, find, Option, Some, None, refl, sym, ap, ap₂, ◌∙◌, subst}
-use Rattle.std.specs.List.{list_any, AllByRecursion as Each}
+use Rattle.std.proofs.Common.{◌≡◌, ℕ, true, List, [], ◌∷◌, ◌++◌, map, find, Option, Some, None, refl, sym, ap, ap₂, ◌∙◌, subst}
+use Rattle.std.specs.List.{AllByRecursion as Each}
 use Rattle.std.proofs.lemmas.Bool.{and_parts}
 use Rattle.std.proofs.lemmas.Option.{same_Some}
+use Rattle.scheme_data.specs.Names.{is_same}
 use Rattle.scheme_data.specs.Data.{Plains}
 use Rattle.name_table.specs.Names.{has_name}
 use Rattle.iface_text.specs.declared.interface.Row.{Row}
@@ -11,10 +12,12 @@ use Rattle.module_head.specs.Heads.{ImportTree, is_word}
 use Rattle.core_tree.specs.declared.tree.Use.{Use}
 use Rattle.core_tree.specs.declared.tree.Use.TheVariants.{From, Need}
 use Rattle.core_tree.specs.Tree.{ModuleTree}
-use Rattle.core_tree.specs.WellFormed.{module_of, row_of, same_use, is_same}
+use Rattle.core_tree.specs.WellFormed.{module_of, row_of, same_use}
 use Rattle.resolver.specs.Drafts.{Draft, draft, exported_rows, interface_of, exported}
-use Rattle.resolver.specs.Elaboration.{interface_named, row_in, row_for, onto, both, from, need, from_item, offered, calls, item_needs, needs, with_first_uses, each_use_once, uses, import_item, module_with, completed, elaborated}
-use Rattle.whole_program.proofs.Members.{found_among, same_name, passing, each_at}
+use Rattle.resolver.specs.Firsts.{firsts}
+use Rattle.resolver.specs.Elaboration.{interface_named, row_in, row_for, onto, both, from, need, from_item, offered, calls, item_needs, needs, each_use_once, uses, import_item, module_with, completed, elaborated}
+use Rattle.resolver.proofs.Firsts.{each_by_firsts}
+use Rattle.whole_program.proofs.Members.{found_among, same_name}
 
 -- the row of the used name is the one with which it is used
 abbrev pub HasRow : List IfaceTree → Use → Type 0
@@ -61,22 +64,9 @@ module _ (given own : List IfaceTree) where
       let rows : Some (row_of u) ≡ Some (row_of v) = sym h ∙ ap₂ (row_for given) m n ∙ i in
       ap₂ (row_for own) m n ∙ k ∙ sym rows
 
-  -- what holds of each use once holds of all uses, and of those that were seen
-  all_have : (seen us : List Use) → Each (HasRow given) seen → Each (HasRow given) us → Each (HasRow own) (with_first_uses seen us) → Each (HasRow own) seen × Each (HasRow own) us
-  all_have seen [] h i k = (k, tt)
-  all_have seen (u ∷ us) h i k = go (list_any (same_use u) seen) refl k (λ l. all_have seen us h i.1 l) (λ l. all_have (seen ++ u ∷ []) us (each_both (HasRow given) seen (u ∷ []) h (i.0, tt)) i.1 l)
-    where
-      go : (b : Bool) → list_any (same_use u) seen ≡ b → Each (HasRow own) (with_first_uses (if b then seen else seen ++ u ∷ []) us)
-          → (Each (HasRow own) (with_first_uses seen us) → Each (HasRow own) seen × Each (HasRow own) us)
-          → (Each (HasRow own) (with_first_uses (seen ++ u ∷ []) us) → Each (HasRow own) (seen ++ u ∷ []) × Each (HasRow own) us)
-          → Each (HasRow own) seen × (HasRow own u × Each (HasRow own) us)
-      go true e l old new =
-          let parts = old l in
-          let first = passing (same_use u) seen e in
-          (parts.0, (same_row u first.item i.0 (each_at (HasRow given) first.item seen h first.there) first.passes (each_at (HasRow own) first.item seen parts.0 first.there), parts.1))
-      go false e l old new =
-          let parts = new l in
-          (each_front (HasRow own) seen (u ∷ []) parts.0, ((each_back (HasRow own) seen (u ∷ []) parts.0).0, parts.1))
+  -- what holds of each use once holds of all uses
+  all_have : (us : List Use) → Each (HasRow given) us → Each (HasRow own) (firsts same_use us) → Each (HasRow own) us
+  all_have us h k = each_by_firsts same_use (HasRow given) (HasRow own) same_row us h k
 
   -- Look-ups --------------------------------------------------------------------------------
 
@@ -157,9 +147,9 @@ module _ (given own : List IfaceTree) where
   once_own : (a b : Option (List Use)) → Moves a b → (us : List Use) → each_use_once a ≡ Some us → Each (HasRow own) us → each_use_once b ≡ Some us
   once_own None b h us e k = absurd (cc)
   once_own (Some vs) b h us e k =
-      let same : us ≡ with_first_uses [] vs = cc in
+      let same : us ≡ firsts same_use vs = cc in
       let moved = h vs refl in
-      ap each_use_once (moved.1 (all_have [] vs tt moved.0 (subst (Each (HasRow own)) same k)).1) ∙ e
+      ap each_use_once (moved.1 (all_have vs moved.0 (subst (Each (HasRow own)) same k))) ∙ e
 
   uses_own : (d : Draft) (us : List Use) → uses given d ≡ Some us → Each (HasRow own) us → uses own d ≡ Some us
   uses_own d us e k =

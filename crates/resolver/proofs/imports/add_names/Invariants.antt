@@ -1,6 +1,7 @@
 use Rattle.std.proofs.Common.{◌≡◌, drop}
-use Rattle.resolver.specs.Drafts.{with_first}
+use Rattle.scheme_data.specs.Names.{is_same}
+use Rattle.resolver.specs.Parts.{with_first}
 use Rattle.resolver.proofs.imports.add_names.Given as goal
 
 abbrev pub invariant-loop-name : goal.invariant-loop-name
-invariant-loop-name l = with_first l.fn.table l.names ≡ with_first l.table (drop l.name-index l.names)
+invariant-loop-name l = with_first is_same l.fn.table l.names ≡ with_first is_same l.table (drop l.name-index l.names)

@@ -1,9 +1,12 @@
 use Rattle.std.proofs.Common.{map, ap, sym, ◌∙◌, if◌then◌else◌, [], Some, None}
 use Rattle.std.specs.Option.{option_map}
 use Rattle.iface_text.specs.Format.{iface_tree}
+use Rattle.core_tree.specs.WellFormed.{same_use}
 use Rattle.module_head.specs.Trees.{import_tree}
-use Rattle.resolver.specs.Elaboration.{each_use_once, with_first_uses}
+use Rattle.resolver.specs.Elaboration.{each_use_once}
+use Rattle.resolver.specs.Parts.{with_first}
 use Rattle.resolver.specs.TakenRows.{use_of}
+use Rattle.resolver.proofs.Firsts.{uses_first}
 use Rattle.resolver.proofs.UseLists.{uses_are}
 use Rattle.resolver.proofs.uses.uses_for.Goals as goal
 
@@ -16,7 +19,7 @@ returns-then-not-branch c =
 
 pub returns : goal.returns
 returns c =
-    ap Some (c.in_ok-each_once.ensures ∙ ap (λ l. with_first_uses [] (map use_of l)) c.as_slice.ensures)
+    ap Some (c.in_ok-each_once.ensures ∙ ap (λ l. with_first same_use [] (map use_of l)) c.as_slice.ensures ∙ uses_first (map use_of c.add_all_needs.new.taken))
     ∙ ap (λ b. each_use_once (if b then Some (map use_of c.add_all_needs.new.taken) else None)) (sym c.if-not-branch.false)
     ∙ uses_are c.in_ok-interfaces.interfaces (map iface_tree c.args.ifaces.now) c.in_ok-interfaces.ensures (map import_tree c.args.head.now.imports) (map import_tree c.as_slice-imports.result.now) c.args.outside.now
     (map use_of c.in-Some.taken) (map use_of c.add_all_needs.new.taken) _ c.in_ok-add_all_needs.field-0
