@@ -5,7 +5,7 @@ use Rattle.base_io.specs.declared.end.End.TheVariants.{Ended, Raised}
 use Rattle.scheme_data.specs.Decimal.{decimal_text}
 use Rattle.built_table.specs.declared.primitives.Ty.TheVariants as ty
 use Rattle.built_table.specs.declared.primitives.Primitive.TheVariants.{Display, Newline}
-use Rattle.core_tree.specs.Tree.{Tree, If, Sequence, none, more, FunctionTree, ModuleTree, own_callee}
+use Rattle.core_tree.specs.Tree.{Tree, If, Sequence, none, more, FunctionTree, ModuleTree}
 use Rattle.c_tree.specs.declared.op.Op.TheVariants.{UnboxLong, Truth, Primitive as Does}
 use Rattle.c_tree.specs.declared.tree.CTy.TheVariants.{Obj, Long, Int}
 use Rattle.c_tree.specs.declared.tree.CAtom.TheVariants as atom
@@ -17,10 +17,10 @@ use Rattle.c_tree.specs.Names.{function_name, maker_name, initializer_name, is_f
 use Rattle.c_meaning.specs.Program.{cm}
 use Rattle.plan_rules.specs.Joined.{joined}
 use Rattle.plan_rules.specs.Representation.{raise_type, operation, local}
-use Rattle.plan_rules.specs.Translation.{Name, Tr, TrUnused, TrAllUnused, TrLast, TrArguments, callees, is_sound_with, Translated}
-use Rattle.simulation.specs.Law.{KeepsMeaning, IsFaithful}
-use Rattle.simulation.proofs.ExampleUnits.{fresh, int, truth, sum_of, less_of, shown, line_end, f_name, go_name, x0, x1, x2, x3, x4, x5, x6, calls, var, plus, is_less, boxed, boxed_truth, a_number, a_word, variable, only, call_first, a_local, calls_function, function, below, hello, one_word, unit, part, go_of, linked, function_so, empties_so, translated_so, alone_so, declared_so, kept_one, kept_two}
-use Rattle.simulation.proofs.Faithful.{keeps_meaning}
+use Rattle.plan_rules.specs.Translation.{Name, Tr, TrUnused, TrAllUnused, TrLast, TrArguments, is_sound_with, Translated}
+use Rattle.simulation.specs.Law.{IsFaithful}
+use Rattle.simulation.proofs.ExampleUnits.{int, truth, sum_of, less_of, shown, line_end, f_name, x0, x1, x2, x3, x4, x5, x6, calls, var, plus, is_less, boxed, boxed_truth, a_number, a_word, variable, only, call_first, a_local, calls_function, function, below, hello, one_word, unit, part, go_of, linked, translated_so, faithful_so, recursive_so}
+use Rattle.simulation.proofs.ExampleDerivations.{then_so, boxed_so, made_so, refused_so, branch_so, none_so, one_so, one_kept, two_so, two_kept, first_unboxed}
 
 abbrev is_word_true : Name → CExpr
 is_word_true x = calls Truth (local x ∷ [])
@@ -42,43 +42,7 @@ argument_code = assign x1 (a_local x0) (test (is_word_true x1) (assign x2 (a_wor
 
 branch_as_argument : Translated (hello argument_body) (unit argument_locals argument_code)
 unfolding Tr TrUnused TrAllUnused TrLast TrArguments is_sound_with function_name maker_name initializer_name is_function_name is_local_name is_label_name
-branch_as_argument = translated_so argument_locals argument_body argument_code
-    (record {
-      temporary = x5;
-      middle = _;
-      fresh = fresh x5 (x0 ∷ []) refl;
-      is_local = refl;
-      box = refl;
-      value = (
-        refl,
-        record {
-          temporaries = x2 ∷ x3 ∷ [];
-          made = x4 ∷ x3 ∷ [];
-          middle = _;
-          last = _;
-          is = refl;
-          values = record {
-            first = x2;
-            rest = x3 ∷ [];
-            middle = _;
-            are = refl;
-            fresh = fresh x2 (x0 ∷ []) refl;
-            is_local = refl;
-            given = (refl, record { temporary = x1; middle = _; first = _; second = _; fresh = fresh x1 (x0 ∷ []) refl; is_local = refl; given = (refl, refl); is = refl; taken = refl; else_taken = refl });
-            all = record { first = x3; rest = []; middle = _; are = refl; fresh = fresh x3 (x2 ∷ x0 ∷ []) refl; is_local = refl; given = refl; all = (refl, refl) };
-          };
-          fit = record {
-            first = x4;
-            rest = x3 ∷ [];
-            middle = _;
-            are = refl;
-            fits = record { fresh = fresh x4 (x2 ∷ x3 ∷ x0 ∷ []) refl; is_local = refl; is = refl };
-            all = record { first = x3; rest = []; middle = _; are = refl; fits = (refl, refl); all = (refl, refl) };
-          };
-        },
-      );
-    })
-    (search rules) refl
+branch_as_argument = translated_so (boxed_so x5 refl (refl, first_unboxed x2 x3 x4 _ refl refl (refl, branch_so x1 _ _ refl (refl, refl) refl refl) refl)) (search rules) refl
 
 -- It is the function's result, and each block returns. The test is `<`, an int itself; the first block boxes a number, the second gives a constant
 abbrev result_body : Tree
@@ -95,51 +59,7 @@ result_code = assign x1 (a_number 2) (assign x2 (a_number 3) (assign x3 (is_less
 
 branch_result : Translated (hello result_body) (unit result_locals result_code)
 unfolding Tr TrUnused TrAllUnused TrLast TrArguments is_sound_with function_name maker_name initializer_name is_function_name is_local_name is_label_name
-branch_result = translated_so result_locals result_body result_code (
-  refl,
-  record {
-    temporary = x3;
-    middle = _;
-    first = _;
-    second = _;
-    fresh = fresh x3 (x0 ∷ []) refl;
-    is_local = refl;
-    is = refl;
-    else_taken = refl;
-    given = (
-      refl,
-      record {
-        temporaries = x1 ∷ x2 ∷ [];
-        made = x1 ∷ x2 ∷ [];
-        middle = _;
-        last = _;
-        is = refl;
-        values = record { first = x1; rest = x2 ∷ []; middle = _; are = refl; fresh = fresh x1 (x0 ∷ []) refl; is_local = refl; given = refl; all = record { first = x2; rest = []; middle = _; are = refl; fresh = fresh x2 (x1 ∷ x0 ∷ []) refl; is_local = refl; given = refl; all = (refl, refl) } };
-        fit = kept_two _ x1 x2 (x1 ∷ x2 ∷ x0 ∷ []) _;
-      },
-    );
-    taken = record {
-      temporary = x4;
-      middle = _;
-      fresh = fresh x4 (x0 ∷ []) refl;
-      is_local = refl;
-      box = refl;
-      value = (
-        refl,
-        record {
-          temporaries = x1 ∷ x2 ∷ [];
-          made = x1 ∷ x2 ∷ [];
-          middle = _;
-          last = _;
-          is = refl;
-          values = record { first = x1; rest = x2 ∷ []; middle = _; are = refl; fresh = fresh x1 (x0 ∷ []) refl; is_local = refl; given = refl; all = record { first = x2; rest = []; middle = _; are = refl; fresh = fresh x2 (x1 ∷ x0 ∷ []) refl; is_local = refl; given = refl; all = (refl, refl) } };
-          fit = kept_two _ x1 x2 (x1 ∷ x2 ∷ x0 ∷ []) _;
-        },
-      );
-    };
-  },
-)
-    (search rules) refl
+branch_result = translated_so (refl, branch_so x3 _ _ refl (refl, two_kept x1 x2 _ refl refl refl) (boxed_so x4 refl (refl, two_kept x1 x2 _ refl refl refl)) refl) (search rules) refl
 
 -- Nobody takes it: a block is a sequence, and a block of a constant is empty. The test is a constant, as an int
 abbrev unused_body : Tree
@@ -150,28 +70,7 @@ unused_code = assign x1 (a_number 1) (test (a_local x1) (call (operation (Does N
 
 branch_unused : Translated (hello unused_body) (unit (var Int x1 ∷ []) unused_code)
 unfolding Tr TrUnused TrAllUnused TrLast TrArguments is_sound_with function_name maker_name initializer_name is_function_name is_local_name is_label_name
-branch_unused = translated_so (var Int x1 ∷ []) unused_body unused_code
-    (record {
-      middle = return (a_word 0) done;
-      all = refl;
-      one = record {
-        temporary = x1;
-        middle = _;
-        first = _;
-        second = _;
-        fresh = fresh x1 (x0 ∷ []) refl;
-        is_local = refl;
-        given = refl;
-        is = refl;
-        taken = record {
-          middle = done;
-          one = record { temporaries = []; made = []; middle = _; last = _; is = refl; values = (refl, refl); fit = (refl, refl) };
-          all = record { middle = done; one = refl; all = refl };
-        };
-        else_taken = refl;
-      };
-    })
-    (search rules) refl
+branch_unused = translated_so (then_so _ (branch_so x1 _ _ refl refl (then_so _ (none_so refl) (then_so _ refl refl)) refl) refl) (search rules) refl
 
 -- How the test comes ------------------------------------------------------------------------
 
@@ -184,11 +83,7 @@ number_code = assign x1 (a_number 0) (test (a_number 1) (return (a_word 7) done)
 
 number_test : Translated (hello number_body) (unit (var Long x1 ∷ []) number_code)
 unfolding Tr TrUnused TrAllUnused TrLast TrArguments is_sound_with function_name maker_name initializer_name is_function_name is_local_name is_label_name
-number_test = translated_so (var Long x1 ∷ []) number_body number_code (
-  refl,
-  record { temporary = x1; middle = _; first = _; second = _; fresh = fresh x1 (x0 ∷ []) refl; is_local = refl; given = refl; is = refl; taken = refl; else_taken = refl },
-)
-    (search rules) refl
+number_test = translated_so (refl, branch_so x1 _ _ refl refl refl refl) (search rules) refl
 
 -- From an `if`, as a word. A block that is an `if` returns from both of its blocks
 abbrev nested_body : Tree
@@ -205,22 +100,7 @@ nested_code =
 
 nested_branches : Translated (hello nested_body) (unit (var Obj x1 ∷ var Obj x2 ∷ var Int x3 ∷ []) nested_code)
 unfolding Tr TrUnused TrAllUnused TrLast TrArguments is_sound_with function_name maker_name initializer_name is_function_name is_local_name is_label_name
-nested_branches = translated_so (var Obj x1 ∷ var Obj x2 ∷ var Int x3 ∷ []) nested_body nested_code (
-  refl,
-  record {
-    temporary = x2;
-    middle = _;
-    first = _;
-    second = _;
-    fresh = fresh x2 (x0 ∷ []) refl;
-    is_local = refl;
-    is = refl;
-    given = (refl, record { temporary = x1; middle = _; first = _; second = _; fresh = fresh x1 (x0 ∷ []) refl; is_local = refl; given = (refl, refl); is = refl; taken = refl; else_taken = refl });
-    taken = refl;
-    else_taken = (refl, record { temporary = x3; middle = _; first = _; second = _; fresh = fresh x3 (x0 ∷ []) refl; is_local = refl; given = refl; is = refl; taken = refl; else_taken = refl });
-  },
-)
-    (search rules) refl
+nested_branches = translated_so (refl, branch_so x2 _ _ refl (refl, branch_so x1 _ _ refl (refl, refl) refl refl) refl (refl, branch_so x3 _ _ refl refl refl refl)) (search rules) refl
 
 -- Where truth values go ---------------------------------------------------------------------
 
@@ -230,19 +110,7 @@ constant_code = assign x1 (expr.Atom atom.True) (return (calls (Does Display) (l
 
 truth_shown : Translated (hello (shown (truth true))) (unit (var Obj x1 ∷ []) constant_code)
 unfolding Tr TrUnused TrAllUnused TrLast TrArguments is_sound_with function_name maker_name initializer_name is_function_name is_local_name is_label_name
-truth_shown = translated_so (var Obj x1 ∷ []) (shown (truth true)) constant_code (
-  refl,
-  record {
-    temporaries = x1 ∷ [];
-    made = x1 ∷ [];
-    middle = _;
-    last = _;
-    is = refl;
-    values = record { first = x1; rest = []; middle = _; are = refl; fresh = fresh x1 (x0 ∷ []) refl; is_local = refl; given = refl; all = (refl, refl) };
-    fit = kept_one _ x1 (x1 ∷ x0 ∷ []) _;
-  },
-)
-    (search rules) refl
+truth_shown = translated_so (refl, one_kept x1 refl refl) (search rules) refl
 
 -- What `<` gives is boxed for an argument
 abbrev order_locals : List CVar
@@ -253,39 +121,7 @@ order_code = assign x1 (a_number 1) (assign x2 (a_number 2) (assign x3 (is_less 
 
 order_shown : Translated (hello (shown (less_of (int 1) (int 2)))) (unit order_locals order_code)
 unfolding Tr TrUnused TrAllUnused TrLast TrArguments is_sound_with function_name maker_name initializer_name is_function_name is_local_name is_label_name
-order_shown = translated_so order_locals (shown (less_of (int 1) (int 2))) order_code (
-  refl,
-  record {
-    temporaries = x3 ∷ [];
-    made = x4 ∷ [];
-    middle = _;
-    last = _;
-    is = refl;
-    values = record {
-      first = x3;
-      rest = [];
-      middle = _;
-      are = refl;
-      fresh = fresh x3 (x0 ∷ []) refl;
-      is_local = refl;
-      all = (refl, refl);
-      given = (
-        refl,
-        record {
-          temporaries = x1 ∷ x2 ∷ [];
-          made = x1 ∷ x2 ∷ [];
-          middle = _;
-          last = _;
-          is = refl;
-          values = record { first = x1; rest = x2 ∷ []; middle = _; are = refl; fresh = fresh x1 (x0 ∷ []) refl; is_local = refl; given = refl; all = record { first = x2; rest = []; middle = _; are = refl; fresh = fresh x2 (x1 ∷ x0 ∷ []) refl; is_local = refl; given = refl; all = (refl, refl) } };
-          fit = kept_two _ x1 x2 (x1 ∷ x2 ∷ x0 ∷ []) _;
-        },
-      );
-    };
-    fit = record { first = x4; rest = []; middle = _; are = refl; fits = record { fresh = fresh x4 (x3 ∷ x0 ∷ []) refl; is_local = refl; is = refl }; all = (refl, refl) };
-  },
-)
-    (search rules) refl
+order_shown = translated_so (refl, one_so x3 x4 _ refl (refl, two_kept x1 x2 _ refl refl refl) (made_so refl)) (search rules) refl
 
 -- and for the function's result
 abbrev order_result_code : Code
@@ -293,27 +129,7 @@ order_result_code = assign x1 (a_number 1) (assign x2 (a_number 2) (assign x3 (i
 
 order_result : Translated (hello (less_of (int 1) (int 2))) (unit order_locals order_result_code)
 unfolding Tr TrUnused TrAllUnused TrLast TrArguments is_sound_with function_name maker_name initializer_name is_function_name is_local_name is_label_name
-order_result = translated_so order_locals (less_of (int 1) (int 2)) order_result_code
-    (record {
-      temporary = x3;
-      middle = _;
-      fresh = fresh x3 (x0 ∷ []) refl;
-      is_local = refl;
-      box = refl;
-      value = (
-        refl,
-        record {
-          temporaries = x1 ∷ x2 ∷ [];
-          made = x1 ∷ x2 ∷ [];
-          middle = _;
-          last = _;
-          is = refl;
-          values = record { first = x1; rest = x2 ∷ []; middle = _; are = refl; fresh = fresh x1 (x0 ∷ []) refl; is_local = refl; given = refl; all = record { first = x2; rest = []; middle = _; are = refl; fresh = fresh x2 (x1 ∷ x0 ∷ []) refl; is_local = refl; given = refl; all = (refl, refl) } };
-          fit = kept_two _ x1 x2 (x1 ∷ x2 ∷ x0 ∷ []) _;
-        },
-      );
-    })
-    (search rules) refl
+order_result = translated_so (boxed_so x3 refl (refl, two_kept x1 x2 _ refl refl refl)) (search rules) refl
 
 -- Where a number is wanted of one, error 1 is raised, and a number stands in its place
 abbrev refused_body : Tree
@@ -327,34 +143,7 @@ refused_code = assign x1 (a_number 1) (assign x2 (a_number 1) (call (raise_type 
 
 truth_refused : Translated (hello refused_body) (unit refused_locals refused_code)
 unfolding Tr TrUnused TrAllUnused TrLast TrArguments is_sound_with function_name maker_name initializer_name is_function_name is_local_name is_label_name
-truth_refused = translated_so refused_locals refused_body refused_code
-    (record {
-      temporary = x4;
-      middle = _;
-      fresh = fresh x4 (x0 ∷ []) refl;
-      is_local = refl;
-      box = refl;
-      value = (
-        refl,
-        record {
-          temporaries = x1 ∷ x2 ∷ [];
-          made = x1 ∷ x3 ∷ [];
-          middle = _;
-          last = _;
-          is = refl;
-          values = record { first = x1; rest = x2 ∷ []; middle = _; are = refl; fresh = fresh x1 (x0 ∷ []) refl; is_local = refl; given = refl; all = record { first = x2; rest = []; middle = _; are = refl; fresh = fresh x2 (x1 ∷ x0 ∷ []) refl; is_local = refl; given = refl; all = (refl, refl) } };
-          fit = record {
-            first = x1;
-            rest = x3 ∷ [];
-            middle = _;
-            are = refl;
-            fits = (refl, refl);
-            all = record { first = x3; rest = []; middle = _; are = refl; fits = record { fresh = fresh x3 (x1 ∷ x1 ∷ x2 ∷ x0 ∷ []) refl; is_local = refl; is = refl }; all = (refl, refl) };
-          };
-        },
-      );
-    })
-    (search rules) refl
+truth_refused = translated_so (boxed_so x4 refl (refl, two_so x1 x2 x1 x3 _ _ _ refl refl refl (refl, refl) (refused_so refl))) (search rules) refl
 
 -- `(define (f n) (if (< n 3) (f (+ n 1)) n))` -----------------------------------------------
 
@@ -388,100 +177,7 @@ counting_unit = declared Obj (function_name (codes "hello") f_name) (Obj ∷ [])
 
 calls_in_a_block : Translated counting counting_unit
 unfolding Tr TrUnused TrAllUnused TrLast TrArguments is_sound_with function_name maker_name initializer_name is_function_name is_local_name is_label_name
-calls_in_a_block =
-    record {
-      functions = (
-        function_so counting f_name counting_locals counting_body counting_code (
-          refl,
-          record {
-            temporary = x4;
-            middle = _;
-            first = _;
-            second = _;
-            fresh = fresh x4 (x0 ∷ []) refl;
-            is_local = refl;
-            is = refl;
-            given = (
-              refl,
-              record {
-                temporaries = x1 ∷ x2 ∷ [];
-                made = x3 ∷ x2 ∷ [];
-                middle = _;
-                last = _;
-                is = refl;
-                values = record { first = x1; rest = x2 ∷ []; middle = _; are = refl; fresh = fresh x1 (x0 ∷ []) refl; is_local = refl; given = (refl, refl); all = record { first = x2; rest = []; middle = _; are = refl; fresh = fresh x2 (x1 ∷ x0 ∷ []) refl; is_local = refl; given = refl; all = (refl, refl) } };
-                fit = record {
-                  first = x3;
-                  rest = x2 ∷ [];
-                  middle = _;
-                  are = refl;
-                  fits = record { fresh = fresh x3 (x1 ∷ x2 ∷ x0 ∷ []) refl; is_local = refl; is = refl };
-                  all = record { first = x2; rest = []; middle = _; are = refl; fits = (refl, refl); all = (refl, refl) };
-                };
-              },
-            );
-            taken = (
-              refl,
-              record {
-                temporaries = x5 ∷ [];
-                made = x6 ∷ [];
-                middle = _;
-                last = _;
-                is = refl;
-                values = record {
-                  first = x5;
-                  rest = [];
-                  middle = _;
-                  are = refl;
-                  fresh = fresh x5 (x0 ∷ []) refl;
-                  is_local = refl;
-                  all = (refl, refl);
-                  given = (
-                    refl,
-                    record {
-                      temporaries = x1 ∷ x2 ∷ [];
-                      made = x3 ∷ x2 ∷ [];
-                      middle = _;
-                      last = _;
-                      is = refl;
-                      values = record { first = x1; rest = x2 ∷ []; middle = _; are = refl; fresh = fresh x1 (x0 ∷ []) refl; is_local = refl; given = (refl, refl); all = record { first = x2; rest = []; middle = _; are = refl; fresh = fresh x2 (x1 ∷ x0 ∷ []) refl; is_local = refl; given = refl; all = (refl, refl) } };
-                      fit = record {
-                        first = x3;
-                        rest = x2 ∷ [];
-                        middle = _;
-                        are = refl;
-                        fits = record { fresh = fresh x3 (x1 ∷ x2 ∷ x0 ∷ []) refl; is_local = refl; is = refl };
-                        all = record { first = x2; rest = []; middle = _; are = refl; fits = (refl, refl); all = (refl, refl) };
-                      };
-                    },
-                  );
-                };
-                fit = record { first = x6; rest = []; middle = _; are = refl; fits = record { fresh = fresh x6 (x5 ∷ x0 ∷ []) refl; is_local = refl; is = refl }; all = (refl, refl) };
-              },
-            );
-            else_taken = (refl, refl);
-          },
-        ),
-        (
-          function_so counting go_name (var Obj x1 ∷ []) start_body start_code (
-            refl,
-            record {
-              temporaries = x1 ∷ [];
-              made = x1 ∷ [];
-              middle = _;
-              last = _;
-              is = refl;
-              values = record { first = x1; rest = []; middle = _; are = refl; fresh = fresh x1 (x0 ∷ []) refl; is_local = refl; given = refl; all = (refl, refl) };
-              fit = kept_one _ x1 (x1 ∷ x0 ∷ []) _;
-            },
-          ),
-          empties_so counting refl,
-        ),
-      );
-      declarations = (declared_so (callees counting) 0 (own_callee (codes "hello") counting_function) refl, tt);
-      named = search rules;
-      sound = refl;
-    }
+calls_in_a_block = recursive_so (refl, branch_so x4 _ _ refl (refl, first_unboxed x1 x2 x3 _ refl refl (refl, refl) refl) (refl, one_so x5 x6 _ refl (refl, first_unboxed x1 x2 x3 _ refl refl (refl, refl) refl) (made_so refl)) (refl, refl)) (refl, one_kept x1 refl refl) (search rules) refl
 
 -- Linked programs ---------------------------------------------------------------------------
 
@@ -524,8 +220,4 @@ counts_up = refl
 
 -- and the law says so of the module
 faithful : IsFaithful (counting ∷ []) (part (codes "hello") counting_unit ∷ []) (go_of (codes "hello"))
-unfolding KeepsMeaning
-faithful =
-    keeps_meaning (counting ∷ []) (part (codes "hello") counting_unit ∷ [])
-    (alone_so (counting_function ∷ []) start_body (record { name = search rules; body = search rules }, (record { name = search rules; body = search rules }, tt)) refl refl)
-    (refl, calls_in_a_block, tt)
+faithful = faithful_so (counting_function ∷ []) start_body counting_unit (record { name = search rules; body = search rules }, (record { name = search rules; body = search rules }, tt)) refl refl calls_in_a_block

@@ -4,7 +4,7 @@ use Rattle.std.specs.Prelude.{codes}
 use Rattle.base_io.specs.declared.end.End.TheVariants.{Ended, Raised, Spent}
 use Rattle.scheme_data.specs.Decimal.{decimal_text}
 use Rattle.built_table.specs.declared.primitives.Primitive.TheVariants.{Display}
-use Rattle.core_tree.specs.Tree.{Tree, Sequence, none, more, FunctionTree, ModuleTree, own_callee}
+use Rattle.core_tree.specs.Tree.{Tree, Sequence, none, more, FunctionTree, ModuleTree}
 use Rattle.c_tree.specs.declared.op.Op.TheVariants.{Primitive as Does}
 use Rattle.c_tree.specs.declared.tree.CTy.TheVariants.{Obj, Long}
 use Rattle.c_tree.specs.declared.tree.CVar.{CVar}
@@ -14,10 +14,10 @@ use Rattle.c_tree.specs.Spelling.{NamedItems}
 use Rattle.c_meaning.specs.Program.{cm}
 use Rattle.plan_rules.specs.Joined.{joined}
 use Rattle.plan_rules.specs.Representation.{raise_count, call_of, operation, local}
-use Rattle.plan_rules.specs.Translation.{Tr, TrUnused, TrAllUnused, TrLast, TrArguments, callees, is_sound_with, Translated}
-use Rattle.simulation.specs.Law.{KeepsMeaning, IsFaithful}
-use Rattle.simulation.proofs.ExampleUnits.{fresh, int, sum_of, shown, f_name, go_name, x0, x1, x2, x3, x4, calls, var, plus, boxed, a_number, a_word, variable, only, call_first, a_local, calls_function, function, below, one_word, unit, part, go_of, linked, Body, function_so, empties_so, alone_so, declared_so, kept_one, kept_two}
-use Rattle.simulation.proofs.Faithful.{keeps_meaning}
+use Rattle.plan_rules.specs.Translation.{Tr, TrUnused, TrAllUnused, TrLast, TrArguments, is_sound_with, Translated}
+use Rattle.simulation.specs.Law.{IsFaithful}
+use Rattle.simulation.proofs.ExampleUnits.{int, sum_of, shown, f_name, x0, x1, x2, x3, x4, calls, var, plus, boxed, a_number, a_word, variable, only, call_first, a_local, calls_function, function, below, one_word, unit, part, go_of, linked, Body, function_so, empties_so, faithful_so, recursive_so}
+use Rattle.simulation.proofs.ExampleDerivations.{then_so, made_so, held, miscounted_so, one_so, one_kept, two_kept}
 
 -- Calls of `(define (f n) n)` ---------------------------------------------------------------
 
@@ -30,10 +30,9 @@ calling body = below (same ∷ []) body
 abbrev units : List CVar → Code → List Item
 units locals code = defined (one_word f_name [] (return (a_local x0) done)) ∷ unit locals code
 
-calling_so : (locals : List CVar) (body : Tree) (code : Code) → Body (calling body) locals body code → NamedItems (units locals code) → is_sound_with [] (units locals code) ≡ true → Translated (calling body) (units locals code)
+calling_so : {locals : List CVar} {body : Tree} {code : Code} → Body (calling body) locals body code → NamedItems (units locals code) → is_sound_with [] (units locals code) ≡ true → Translated (calling body) (units locals code)
 unfolding Tr TrUnused TrAllUnused TrLast TrArguments
-calling_so locals body code translated named sound =
-    record { functions = (function_so (calling body) f_name [] (variable 0) _ (refl, refl), (function_so (calling body) go_name locals body code translated, empties_so (calling body) refl)); declarations = tt; named = named; sound = sound }
+calling_so translated named sound = record { functions = (function_so (refl, refl), (function_so translated, empties_so refl)); declarations = tt; named = named; sound = sound }
 
 abbrev f_of : Tree → Tree
 f_of t = call_first (more t none)
@@ -44,19 +43,7 @@ tail_code = assign x1 (a_word 7) (return (calls_function f_name (local x1 ∷ []
 
 call_result : Translated (calling (f_of (int 7))) (units (var Obj x1 ∷ []) tail_code)
 unfolding Tr TrUnused TrAllUnused TrLast TrArguments is_sound_with function_name maker_name initializer_name is_function_name is_local_name is_label_name
-call_result = calling_so (var Obj x1 ∷ []) (f_of (int 7)) tail_code (
-  refl,
-  record {
-    temporaries = x1 ∷ [];
-    made = x1 ∷ [];
-    middle = _;
-    last = _;
-    is = refl;
-    values = record { first = x1; rest = []; middle = _; are = refl; fresh = fresh x1 (x0 ∷ []) refl; is_local = refl; given = refl; all = (refl, refl) };
-    fit = kept_one _ x1 (x1 ∷ x0 ∷ []) _;
-  },
-)
-    (search rules) refl
+call_result = calling_so (refl, one_kept x1 refl refl) (search rules) refl
 
 -- Its value goes to a local
 abbrev local_code : Code
@@ -64,39 +51,7 @@ local_code = assign x1 (a_word 7) (assign x2 (calls_function f_name (local x1 �
 
 call_shown : Translated (calling (shown (f_of (int 7)))) (units (var Obj x1 ∷ var Obj x2 ∷ []) local_code)
 unfolding Tr TrUnused TrAllUnused TrLast TrArguments is_sound_with function_name maker_name initializer_name is_function_name is_local_name is_label_name
-call_shown = calling_so (var Obj x1 ∷ var Obj x2 ∷ []) (shown (f_of (int 7))) local_code (
-  refl,
-  record {
-    temporaries = x2 ∷ [];
-    made = x2 ∷ [];
-    middle = _;
-    last = _;
-    is = refl;
-    values = record {
-      first = x2;
-      rest = [];
-      middle = _;
-      are = refl;
-      fresh = fresh x2 (x0 ∷ []) refl;
-      is_local = refl;
-      all = (refl, refl);
-      given = (
-        refl,
-        record {
-          temporaries = x1 ∷ [];
-          made = x1 ∷ [];
-          middle = _;
-          last = _;
-          is = refl;
-          values = record { first = x1; rest = []; middle = _; are = refl; fresh = fresh x1 (x0 ∷ []) refl; is_local = refl; given = refl; all = (refl, refl) };
-          fit = kept_one _ x1 (x1 ∷ x0 ∷ []) _;
-        },
-      );
-    };
-    fit = kept_one _ x2 (x2 ∷ x0 ∷ []) _;
-  },
-)
-    (search rules) refl
+call_shown = calling_so (refl, one_kept x2 refl (refl, one_kept x1 refl refl)) (search rules) refl
 
 -- Nobody takes its value
 abbrev unused_call : Tree
@@ -107,21 +62,7 @@ unused_code = assign x1 (a_local x0) (call (call_of (function_name (codes "hello
 
 call_unused : Translated (calling unused_call) (units (var Obj x1 ∷ []) unused_code)
 unfolding Tr TrUnused TrAllUnused TrLast TrArguments is_sound_with function_name maker_name initializer_name is_function_name is_local_name is_label_name
-call_unused = calling_so (var Obj x1 ∷ []) unused_call unused_code
-    (record {
-      middle = _;
-      all = refl;
-      one = record {
-        temporaries = x1 ∷ [];
-        made = x1 ∷ [];
-        middle = _;
-        last = _;
-        is = refl;
-        values = record { first = x1; rest = []; middle = _; are = refl; fresh = fresh x1 (x0 ∷ []) refl; is_local = refl; given = (refl, refl); all = (refl, refl) };
-        fit = kept_one _ x1 (x1 ∷ x0 ∷ []) _;
-      };
-    })
-    (search rules) refl
+call_unused = calling_so (then_so _ (one_kept x1 refl (refl, refl)) refl) (search rules) refl
 
 -- Its argument comes as a number, and is boxed
 abbrev boxed_locals : List CVar
@@ -132,39 +73,7 @@ boxed_code = assign x1 (a_number 1) (assign x2 (a_number 2) (assign x3 (plus x1 
 
 call_of_sum : Translated (calling (f_of (sum_of (int 1) (int 2)))) (units boxed_locals boxed_code)
 unfolding Tr TrUnused TrAllUnused TrLast TrArguments is_sound_with function_name maker_name initializer_name is_function_name is_local_name is_label_name
-call_of_sum = calling_so boxed_locals (f_of (sum_of (int 1) (int 2))) boxed_code (
-  refl,
-  record {
-    temporaries = x3 ∷ [];
-    made = x4 ∷ [];
-    middle = _;
-    last = _;
-    is = refl;
-    values = record {
-      first = x3;
-      rest = [];
-      middle = _;
-      are = refl;
-      fresh = fresh x3 (x0 ∷ []) refl;
-      is_local = refl;
-      all = (refl, refl);
-      given = (
-        refl,
-        record {
-          temporaries = x1 ∷ x2 ∷ [];
-          made = x1 ∷ x2 ∷ [];
-          middle = _;
-          last = _;
-          is = refl;
-          values = record { first = x1; rest = x2 ∷ []; middle = _; are = refl; fresh = fresh x1 (x0 ∷ []) refl; is_local = refl; given = refl; all = record { first = x2; rest = []; middle = _; are = refl; fresh = fresh x2 (x1 ∷ x0 ∷ []) refl; is_local = refl; given = refl; all = (refl, refl) } };
-          fit = kept_two _ x1 x2 (x1 ∷ x2 ∷ x0 ∷ []) _;
-        },
-      );
-    };
-    fit = record { first = x4; rest = []; middle = _; are = refl; fits = record { fresh = fresh x4 (x3 ∷ x0 ∷ []) refl; is_local = refl; is = refl }; all = (refl, refl) };
-  },
-)
-    (search rules) refl
+call_of_sum = calling_so (refl, one_so x3 x4 _ refl (refl, two_kept x1 x2 _ refl refl refl) (made_so refl)) (search rules) refl
 
 -- The wrong number of arguments -------------------------------------------------------------
 
@@ -177,16 +86,7 @@ many_code = assign x1 (a_word 1) (assign x2 (a_word 2) (call (raise_count 1) don
 
 too_many : Translated (calling two_words) (units (var Obj x1 ∷ var Obj x2 ∷ []) many_code)
 unfolding Tr TrUnused TrAllUnused TrLast TrArguments is_sound_with function_name maker_name initializer_name is_function_name is_local_name is_label_name
-too_many = calling_so (var Obj x1 ∷ var Obj x2 ∷ []) two_words many_code (
-  refl,
-  record {
-    temporaries = x1 ∷ x2 ∷ [];
-    middle = _;
-    is = refl;
-    values = record { first = x1; rest = x2 ∷ []; middle = _; are = refl; fresh = fresh x1 (x0 ∷ []) refl; is_local = refl; given = refl; all = record { first = x2; rest = []; middle = _; are = refl; fresh = fresh x2 (x1 ∷ x0 ∷ []) refl; is_local = refl; given = refl; all = (refl, refl) } };
-  },
-)
-    (search rules) refl
+too_many = calling_so (refl, miscounted_so (x1 ∷ x2 ∷ []) (held x1 _ refl refl (held x2 _ refl refl (refl, refl)))) (search rules) refl
 
 -- Too few, and nobody takes the value
 abbrev too_few_parts : Tree
@@ -197,7 +97,7 @@ few_code = call (raise_count 1) (return (a_word 0) done)
 
 too_few : Translated (calling too_few_parts) (units [] few_code)
 unfolding Tr TrUnused TrAllUnused TrLast TrArguments is_sound_with function_name maker_name initializer_name is_function_name is_local_name is_label_name
-too_few = calling_so [] too_few_parts few_code (record { middle = _; one = record { temporaries = []; middle = _; is = refl; values = (refl, refl) }; all = refl }) (search rules) refl
+too_few = calling_so (then_so _ (miscounted_so [] (refl, refl)) refl) (search rules) refl
 
 -- `(define (f n) (display n) (f n))` --------------------------------------------------------
 
@@ -225,54 +125,7 @@ endless_unit = declared Obj (function_name (codes "hello") f_name) (Obj ∷ []) 
 
 calls_itself : Translated endless endless_unit
 unfolding Tr TrUnused TrAllUnused TrLast TrArguments is_sound_with function_name maker_name initializer_name is_function_name is_local_name is_label_name
-calls_itself =
-    record {
-      functions = (
-        function_so endless f_name (var Obj x1 ∷ var Obj x2 ∷ []) endless_body endless_code
-            (record {
-              middle = again_code;
-              one = record {
-                temporaries = x1 ∷ [];
-                made = x1 ∷ [];
-                middle = _;
-                last = _;
-                is = refl;
-                values = record { first = x1; rest = []; middle = _; are = refl; fresh = fresh x1 (x0 ∷ []) refl; is_local = refl; given = (refl, refl); all = (refl, refl) };
-                fit = kept_one _ x1 (x1 ∷ x0 ∷ []) _;
-              };
-              all = (
-                refl,
-                record {
-                  temporaries = x2 ∷ [];
-                  made = x2 ∷ [];
-                  middle = _;
-                  last = _;
-                  is = refl;
-                  values = record { first = x2; rest = []; middle = _; are = refl; fresh = fresh x2 (x0 ∷ []) refl; is_local = refl; given = (refl, refl); all = (refl, refl) };
-                  fit = kept_one _ x2 (x2 ∷ x0 ∷ []) _;
-                },
-              );
-            }),
-        (
-          function_so endless go_name (var Obj x1 ∷ []) start_body tail_code (
-            refl,
-            record {
-              temporaries = x1 ∷ [];
-              made = x1 ∷ [];
-              middle = _;
-              last = _;
-              is = refl;
-              values = record { first = x1; rest = []; middle = _; are = refl; fresh = fresh x1 (x0 ∷ []) refl; is_local = refl; given = refl; all = (refl, refl) };
-              fit = kept_one _ x1 (x1 ∷ x0 ∷ []) _;
-            },
-          ),
-          empties_so endless refl,
-        ),
-      );
-      declarations = (declared_so (callees endless) 0 (own_callee (codes "hello") endless_function) refl, tt);
-      named = search rules;
-      sound = refl;
-    }
+calls_itself = recursive_so (then_so _ (one_kept x1 refl (refl, refl)) (refl, one_kept x2 refl (refl, refl))) (refl, one_kept x1 refl refl) (search rules) refl
 
 -- Linked programs ---------------------------------------------------------------------------
 
@@ -294,8 +147,4 @@ for_ever = refl
 
 -- and the law says so of the module
 faithful : IsFaithful (endless ∷ []) (part (codes "hello") endless_unit ∷ []) (go_of (codes "hello"))
-unfolding KeepsMeaning
-faithful =
-    keeps_meaning (endless ∷ []) (part (codes "hello") endless_unit ∷ [])
-    (alone_so (endless_function ∷ []) start_body (record { name = search rules; body = search rules }, (record { name = search rules; body = search rules }, tt)) refl refl)
-    (refl, calls_itself, tt)
+faithful = faithful_so (endless_function ∷ []) start_body endless_unit (record { name = search rules; body = search rules }, (record { name = search rules; body = search rules }, tt)) refl refl calls_itself

@@ -1,14 +1,14 @@
 -- Small modules and units, and what examples of translations share.
-use Rattle.std.proofs.Common.{◌≡◌, ℕ, List, [], ◌∷◌, ◌++◌, Bool, true, false, Some, refl, sym, ap, ◌∙◌, subst, inl, inr, arith}
-use Rattle.std.specs.Prelude.{codes, pos, map, replicate, slice_get, if◌then◌else◌, IsTrue}
+use Rattle.std.proofs.Common.{◌≡◌, ℕ, List, [], ◌∷◌, ◌++◌, Bool, true, Some, refl, sym, ap, subst, arith}
+use Rattle.std.specs.Prelude.{codes, pos, map, replicate, slice_get, IsTrue}
 use Rattle.std.proofs.lemmas.Option.{slice_get_within, get_or_from_slice_get}
-use Rattle.built_table.specs.declared.primitives.Ty.TheVariants as ty
+use Rattle.scheme_data.specs.Names.{are_distinct}
 use Rattle.built_table.specs.declared.primitives.Primitive.TheVariants.{Add, Less, Display, Newline}
 use Rattle.core_tree.specs.declared.tree.Const.TheVariants.{Int, Bool as Truth}
 use Rattle.core_tree.specs.declared.tree.GlobalRef.TheVariants.{Own}
 use Rattle.core_tree.specs.declared.tree.VarId.{VarId}
-use Rattle.core_tree.specs.Tree.{Tree, Constant, Variable, Sequence, Call, Primitive, Trees, none, more, FunctionTree, ModuleTree, Callee, function_named}
-use Rattle.core_tree.specs.WellFormed.{are_distinct, takes_as_many, AreFunctions}
+use Rattle.core_tree.specs.Tree.{Tree, Constant, Variable, Sequence, Call, Primitive, Trees, none, more, FunctionTree, ModuleTree, Callee, own_callee, function_named}
+use Rattle.core_tree.specs.WellFormed.{takes_as_many, AreFunctions}
 use Rattle.meaning.specs.Procedures.{found_in}
 use Rattle.meaning.specs.Program.{IsProgram}
 use Rattle.c_tree.specs.declared.op.Op.{Op}
@@ -21,32 +21,15 @@ use Rattle.c_tree.specs.declared.tree.CAtom.TheVariants as atom
 use Rattle.c_tree.specs.declared.tree.CExpr.{CExpr}
 use Rattle.c_tree.specs.declared.tree.CExpr.TheVariants as expr
 use Rattle.c_tree.specs.declared.tree.CVar.{CVar}
-use Rattle.c_tree.specs.Code.{Code, done, return, loop, Fun, Item, defined}
+use Rattle.c_tree.specs.Code.{Code, done, return, loop, Fun, Item, declared, defined}
 use Rattle.c_tree.specs.Names.{function_name, maker_name, initializer_name}
 use Rattle.c_tree.specs.Spelling.{NamedItems}
-use Rattle.c_meaning.specs.Execution.{is_same}
 use Rattle.plan_rules.specs.declared.rep.Rep.TheVariants as rep
 use Rattle.plan_rules.specs.Joined.{Part, joined}
 use Rattle.plan_rules.specs.Representation.{PlainAt, operation, call_of, local}
-use Rattle.plan_rules.specs.Translation.{Name, Fresh, back, AllFit, Tr, TrAllUnused, TrFunction, TrFunctions, c_name_of, IsDeclared, is_sound_with, Translated}
-use Rattle.simulation.proofs.Names.{same_test}
-
--- Side conditions ---------------------------------------------------------------------------
-
-abbrev pub absent : Name → List Name → Bool
-absent x [] = true
-absent x (y ∷ ys) = if is_same x y then false else absent x ys
-
-pub fresh : (x : Name) (xs : List Name) → absent x xs ≡ true → Fresh x xs
-fresh x [] e i = i
-fresh x (y ∷ ys) e (inl q) = let bad : false ≡ true = sym (ap (λ b. if b then false else absent x ys) (same_test x y q)) ∙ e in absurd (cc)
-fresh x (y ∷ ys) e (inr i) = fresh x ys (go (is_same x y) e) i
-  where
-    go : (b : Bool) → (if b then false else absent x ys) ≡ true → absent x ys ≡ true
-    go true e1 = absurd (cc)
-    go false e1 = e1
-
--- Modules and units -------------------------------------------------------------------------
+use Rattle.plan_rules.specs.Translation.{Name, back, Tr, TrAllUnused, TrFunction, TrFunctions, callees, c_name_of, IsDeclared, is_sound_with, Translated}
+use Rattle.simulation.specs.Law.{KeepsMeaning, IsFaithful}
+use Rattle.simulation.proofs.Faithful.{keeps_meaning}
 
 abbrev pub int : ℕ → Tree
 int n = Constant (Int (pos n))
@@ -196,30 +179,28 @@ linked items = joined (part (codes "hello") items ∷ []) (go_of (codes "hello")
 abbrev pub Body : ModuleTree → List CVar → Tree → Code → Type 0
 Body m locals body code = Tr m ((record { 0 = 0 }, PlainAt rep.Obj x0) ∷ []) (var Obj x0 ∷ locals) (Sequence (more body none)) rep.Obj (x0 ∷ []) back code done
 
-pub function_so : (m : ModuleTree) (name : Name) (locals : List CVar) (body : Tree) (code : Code) → Body m locals body code → TrFunction m (function name (record { 0 = 0 } ∷ []) body) (definition m.name name locals code)
-function_so m name locals body code translated = record { name = refl; result = refl; params = refl; label = _; body = code; looped = refl; translated = translated }
+pub function_so : {m : ModuleTree} {name : Name} {locals : List CVar} {body : Tree} {code : Code} → Body m locals body code → TrFunction m (function name (record { 0 = 0 } ∷ []) body) (definition m.name name locals code)
+function_so translated = record { name = refl; result = refl; params = refl; label = _; body = _; looped = refl; translated = translated }
 
--- the forms of a module
-abbrev pub Forms : ModuleTree → List CVar → Code → Type 0
-Forms m locals code = TrAllUnused m [] locals m.forms [] code unspecified
+-- the maker and the initialisation, with the forms of the module
+pub forms_so : {m : ModuleTree} {locals : List CVar} {code : Code} → TrAllUnused m [] locals m.forms [] code unspecified → TrFunctions m [] (last_items m.name locals code)
+forms_so translated = (record { named = refl; result = refl; params = refl; locals = refl; code = refl }, (record { named = refl; result = refl; params = refl; translated = translated }, tt))
 
-pub forms_so : (m : ModuleTree) (locals : List CVar) (code : Code) → Forms m locals code → TrFunctions m [] (last_items m.name locals code)
-forms_so m locals code translated = (record { named = refl; result = refl; params = refl; locals = refl; code = refl }, (record { named = refl; result = refl; params = refl; translated = translated }, tt))
-
-pub empties_so : (m : ModuleTree) → m.forms ≡ none → TrFunctions m [] (empties m.name)
+pub empties_so : {m : ModuleTree} → m.forms ≡ none → TrFunctions m [] (empties m.name)
 unfolding TrAllUnused
-empties_so m e = forms_so m [] unspecified (subst (λ ts. TrAllUnused m [] [] ts [] unspecified unspecified) (sym e) refl)
+empties_so {m = m} e = forms_so (subst (λ ts. TrAllUnused m [] [] ts [] unspecified unspecified) (sym e) refl)
 
-pub translated_so : (locals : List CVar) (body : Tree) (code : Code) → Body (hello body) locals body code → NamedItems (unit locals code) → is_sound_with [] (unit locals code) ≡ true → Translated (hello body) (unit locals code)
-translated_so locals body code translated named sound =
-    record { functions = (function_so (hello body) go_name locals body code translated, empties_so (hello body) refl); declarations = tt; named = named; sound = sound }
+pub translated_so : {locals : List CVar} {body : Tree} {code : Code} → Body (hello body) locals body code → NamedItems (unit locals code) → is_sound_with [] (unit locals code) ≡ true → Translated (hello body) (unit locals code)
+translated_so translated named sound =
+    record { functions = (function_so translated, empties_so refl); declarations = tt; named = named; sound = sound }
 
--- a module alone, of functions that are well formed
-abbrev pub alone_so : (others : List FunctionTree) (body : Tree) → AreFunctions (below others body) (below others body).functions → IsTrue (are_distinct (map (λ f. f.name) (below others body).functions))
-    → function_named (below others body).functions go_name ≡ Some (function go_name (record { 0 = 0 } ∷ []) body) → IsProgram (below others body ∷ [])
-alone_so others body functions distinct found =
+-- the law, of a module alone whose functions are well formed
+pub faithful_so : (others : List FunctionTree) (body : Tree) (items : List Item) → AreFunctions (below others body) (below others body).functions → IsTrue (are_distinct (map (λ f. f.name) (below others body).functions))
+    → function_named (below others body).functions go_name ≡ Some (function go_name (record { 0 = 0 } ∷ []) body) → Translated (below others body) items → IsFaithful (below others body ∷ []) (part (codes "hello") items ∷ []) (go_of (codes "hello"))
+unfolding KeepsMeaning
+faithful_so others body items functions distinct found translated =
     let m = below others body in
-    record {
+    let is : IsProgram (m ∷ []) = record {
       formed = (
         record { name = record { some = omega arith; short = omega arith; bytes = refl }; imports = tt; functions = functions; forms = tt; distinct = distinct; uses = tt; once = refl; ordered = refl; rows = tt; exported = refl; main = ap (takes_as_many 1) found },
         tt,
@@ -231,15 +212,22 @@ alone_so others body functions distinct found =
       function = record { home = m; function = function go_name (record { 0 = 0 } ∷ []) body };
       is = ap (found_in m) found;
       one = (record { 0 = 0 }, refl);
-    }
+    } in
+    keeps_meaning (m ∷ []) (part (codes "hello") items ∷ []) is (refl, translated, tt)
 
 -- the declaration of a function that may be called
 pub declared_so : (cs : List Callee) (k : ℕ) (c : Callee) → slice_get cs k ≡ Some c → IsDeclared cs Obj (c_name_of c) (replicate c.params Obj)
 declared_so cs k c at = record { callee = c; is_one = (k, slice_get_within cs k c at, get_or_from_slice_get cs k c c at); named = refl; gives = refl; takes = refl }
 
--- arguments that fit as they are
-pub kept_one : (vars : List CVar) (a : Name) (live : List Name) (code : Code) → AllFit vars (ty.Obj ∷ []) (rep.Obj ∷ []) (a ∷ []) live code (a ∷ []) code
-kept_one vars a live code = record { first = a; rest = []; middle = code; are = refl; fits = (refl, refl); all = (refl, refl) }
+-- `(module hello (main go)) (define (f n) OWN) (define (go args) BODY)`
+abbrev pub recursive : Tree → Tree → ModuleTree
+recursive own body = below (function f_name (record { 0 = 0 } ∷ []) own ∷ []) body
 
-pub kept_two : (vars : List CVar) (a b : Name) (live : List Name) (code : Code) → AllFit vars (ty.Long ∷ ty.Long ∷ []) (rep.Long ∷ rep.Long ∷ []) (a ∷ b ∷ []) live code (a ∷ b ∷ []) code
-kept_two vars a b live code = record { first = a; rest = b ∷ []; middle = code; are = refl; fits = (refl, refl); all = record { first = b; rest = []; middle = code; are = refl; fits = (refl, refl); all = (refl, refl) } }
+-- its unit, in which `f` is declared before its definition
+abbrev pub recursive_unit : List CVar → Code → List CVar → Code → List Item
+recursive_unit own_locals own_code locals code = declared Obj (function_name (codes "hello") f_name) (Obj ∷ []) ∷ defined (one_word f_name own_locals own_code) ∷ unit locals code
+
+pub recursive_so : {own body : Tree} {own_locals locals : List CVar} {own_code code : Code} → Body (recursive own body) own_locals own own_code → Body (recursive own body) locals body code
+    → NamedItems (recursive_unit own_locals own_code locals code) → is_sound_with [] (recursive_unit own_locals own_code locals code) ≡ true → Translated (recursive own body) (recursive_unit own_locals own_code locals code)
+recursive_so {own = own} {body = body} own_translated translated named sound =
+    record { functions = (function_so own_translated, (function_so translated, empties_so refl)); declarations = (declared_so (callees (recursive own body)) 0 (own_callee (codes "hello") (function f_name (record { 0 = 0 } ∷ []) own)) refl, tt); named = named; sound = sound }

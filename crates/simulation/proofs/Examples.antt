@@ -14,16 +14,16 @@ use Rattle.c_meaning.specs.Program.{cm}
 use Rattle.plan_rules.specs.Joined.{joined}
 use Rattle.plan_rules.specs.Representation.{operation, local}
 use Rattle.plan_rules.specs.Translation.{Tr, TrUnused, TrAllUnused, TrLast, TrArguments, is_sound_with, Translated}
-use Rattle.simulation.specs.Law.{KeepsMeaning, IsFaithful}
-use Rattle.simulation.proofs.ExampleUnits.{fresh, int, sum_of, shown, line_end, x0, x1, x2, x3, x4, x5, calls, var, plus, boxed, a_number, a_word, variable, a_local, hello, unit, part, go_of, linked, translated_so, alone_so, kept_one, kept_two}
-use Rattle.simulation.proofs.Faithful.{keeps_meaning}
+use Rattle.simulation.specs.Law.{IsFaithful}
+use Rattle.simulation.proofs.ExampleUnits.{int, sum_of, shown, line_end, x0, x1, x2, x3, x4, x5, calls, var, plus, boxed, a_number, a_word, variable, a_local, hello, unit, part, go_of, linked, translated_so, faithful_so}
+use Rattle.simulation.proofs.ExampleDerivations.{then_so, boxed_so, made_so, none_so, one_so, one_kept, two_kept, first_unboxed}
 
 -- Nodes -------------------------------------------------------------------------------------
 
 -- A constant, as a word
 constant_word : Translated (hello (int 42)) (unit [] (return (a_word 42) done))
 unfolding Tr TrUnused TrAllUnused TrLast TrArguments is_sound_with function_name maker_name initializer_name is_function_name is_local_name is_label_name
-constant_word = translated_so [] (int 42) _ refl (search rules) refl
+constant_word = translated_so refl (search rules) refl
 
 -- Constants, as numbers, and a sum as the function's result
 abbrev sum_locals : List CVar
@@ -34,27 +34,7 @@ sum_code = assign x1 (a_number 40) (assign x2 (a_number 2) (assign x3 (plus x1 x
 
 sum_result : Translated (hello (sum_of (int 40) (int 2))) (unit sum_locals sum_code)
 unfolding Tr TrUnused TrAllUnused TrLast TrArguments is_sound_with function_name maker_name initializer_name is_function_name is_local_name is_label_name
-sum_result = translated_so sum_locals (sum_of (int 40) (int 2)) sum_code
-    (record {
-      temporary = x3;
-      middle = _;
-      fresh = fresh x3 (x0 ∷ []) refl;
-      is_local = refl;
-      box = refl;
-      value = (
-        refl,
-        record {
-          temporaries = x1 ∷ x2 ∷ [];
-          made = x1 ∷ x2 ∷ [];
-          middle = _;
-          last = _;
-          is = refl;
-          values = record { first = x1; rest = x2 ∷ []; middle = _; are = refl; fresh = fresh x1 (x0 ∷ []) refl; is_local = refl; given = refl; all = record { first = x2; rest = []; middle = _; are = refl; fresh = fresh x2 (x1 ∷ x0 ∷ []) refl; is_local = refl; given = refl; all = (refl, refl) } };
-          fit = kept_two _ x1 x2 (x1 ∷ x2 ∷ x0 ∷ []) _;
-        },
-      );
-    })
-    (search rules) refl
+sum_result = translated_so (boxed_so x3 refl (refl, two_kept x1 x2 _ refl refl refl)) (search rules) refl
 
 -- A sum of what `display` gives: its word is unboxed, after both arguments
 abbrev unboxed_locals : List CVar
@@ -65,54 +45,7 @@ unboxed_code = assign x1 (a_word 1) (assign x2 (calls (Does Display) (local x1 �
 
 sum_of_display : Translated (hello (sum_of (shown (int 1)) (int 2))) (unit unboxed_locals unboxed_code)
 unfolding Tr TrUnused TrAllUnused TrLast TrArguments is_sound_with function_name maker_name initializer_name is_function_name is_local_name is_label_name
-sum_of_display = translated_so unboxed_locals (sum_of (shown (int 1)) (int 2)) unboxed_code
-    (record {
-      temporary = x5;
-      middle = _;
-      fresh = fresh x5 (x0 ∷ []) refl;
-      is_local = refl;
-      box = refl;
-      value = (
-        refl,
-        record {
-          temporaries = x2 ∷ x3 ∷ [];
-          made = x4 ∷ x3 ∷ [];
-          middle = _;
-          last = _;
-          is = refl;
-          values = record {
-            first = x2;
-            rest = x3 ∷ [];
-            middle = _;
-            are = refl;
-            fresh = fresh x2 (x0 ∷ []) refl;
-            is_local = refl;
-            given = (
-              refl,
-              record {
-                temporaries = x1 ∷ [];
-                made = x1 ∷ [];
-                middle = _;
-                last = _;
-                is = refl;
-                values = record { first = x1; rest = []; middle = _; are = refl; fresh = fresh x1 (x0 ∷ []) refl; is_local = refl; given = refl; all = (refl, refl) };
-                fit = kept_one _ x1 (x1 ∷ x0 ∷ []) _;
-              },
-            );
-            all = record { first = x3; rest = []; middle = _; are = refl; fresh = fresh x3 (x2 ∷ x0 ∷ []) refl; is_local = refl; given = refl; all = (refl, refl) };
-          };
-          fit = record {
-            first = x4;
-            rest = x3 ∷ [];
-            middle = _;
-            are = refl;
-            fits = record { fresh = fresh x4 (x2 ∷ x3 ∷ x0 ∷ []) refl; is_local = refl; is = refl };
-            all = record { first = x3; rest = []; middle = _; are = refl; fits = (refl, refl); all = (refl, refl) };
-          };
-        },
-      );
-    })
-    (search rules) refl
+sum_of_display = translated_so (boxed_so x5 refl (refl, first_unboxed x2 x3 x4 _ refl refl (refl, one_kept x1 refl refl) refl)) (search rules) refl
 
 -- `display` of a sum: its number is boxed
 abbrev boxed_locals : List CVar
@@ -123,39 +56,7 @@ boxed_code = assign x1 (a_number 1) (assign x2 (a_number 2) (assign x3 (plus x1 
 
 display_of_sum : Translated (hello (shown (sum_of (int 1) (int 2)))) (unit boxed_locals boxed_code)
 unfolding Tr TrUnused TrAllUnused TrLast TrArguments is_sound_with function_name maker_name initializer_name is_function_name is_local_name is_label_name
-display_of_sum = translated_so boxed_locals (shown (sum_of (int 1) (int 2))) boxed_code (
-  refl,
-  record {
-    temporaries = x3 ∷ [];
-    made = x4 ∷ [];
-    middle = _;
-    last = _;
-    is = refl;
-    values = record {
-      first = x3;
-      rest = [];
-      middle = _;
-      are = refl;
-      fresh = fresh x3 (x0 ∷ []) refl;
-      is_local = refl;
-      all = (refl, refl);
-      given = (
-        refl,
-        record {
-          temporaries = x1 ∷ x2 ∷ [];
-          made = x1 ∷ x2 ∷ [];
-          middle = _;
-          last = _;
-          is = refl;
-          values = record { first = x1; rest = x2 ∷ []; middle = _; are = refl; fresh = fresh x1 (x0 ∷ []) refl; is_local = refl; given = refl; all = record { first = x2; rest = []; middle = _; are = refl; fresh = fresh x2 (x1 ∷ x0 ∷ []) refl; is_local = refl; given = refl; all = (refl, refl) } };
-          fit = kept_two _ x1 x2 (x1 ∷ x2 ∷ x0 ∷ []) _;
-        },
-      );
-    };
-    fit = record { first = x4; rest = []; middle = _; are = refl; fits = record { fresh = fresh x4 (x3 ∷ x0 ∷ []) refl; is_local = refl; is = refl }; all = (refl, refl) };
-  },
-)
-    (search rules) refl
+display_of_sum = translated_so (refl, one_so x3 x4 _ refl (refl, two_kept x1 x2 _ refl refl refl) (made_so refl)) (search rules) refl
 
 -- A body whose first parts nobody takes: a constant has no statement
 abbrev parts : Tree
@@ -166,29 +67,7 @@ parts_code = assign x1 (a_word 1) (call (operation (Does Display) (local x1 ∷ 
 
 unused_parts : Translated (hello parts) (unit (var Obj x1 ∷ []) parts_code)
 unfolding Tr TrUnused TrAllUnused TrLast TrArguments is_sound_with function_name maker_name initializer_name is_function_name is_local_name is_label_name
-unused_parts = translated_so (var Obj x1 ∷ []) parts parts_code
-    (record {
-      middle = parts_code;
-      one = refl;
-      all = record {
-        middle = _;
-        one = record {
-          temporaries = x1 ∷ [];
-          made = x1 ∷ [];
-          middle = _;
-          last = _;
-          is = refl;
-          values = record { first = x1; rest = []; middle = _; are = refl; fresh = fresh x1 (x0 ∷ []) refl; is_local = refl; given = refl; all = (refl, refl) };
-          fit = kept_one _ x1 (x1 ∷ x0 ∷ []) _;
-        };
-        all = record {
-          middle = return (a_word 0) done;
-          all = refl;
-          one = record { temporaries = []; made = []; middle = _; last = _; is = refl; values = (refl, refl); fit = (refl, refl) };
-        };
-      };
-    })
-    (search rules) refl
+unused_parts = translated_so (then_so _ refl (then_so _ (one_kept x1 refl refl) (then_so _ (none_so refl) refl))) (search rules) refl
 
 -- A sequence as an argument, and `newline` as the function's result
 abbrev nested : Tree
@@ -202,59 +81,14 @@ nested_code = call (operation (Does Newline) []) (assign x1 (a_number 1) (assign
 
 nested_sequence : Translated (hello nested) (unit nested_locals nested_code)
 unfolding Tr TrUnused TrAllUnused TrLast TrArguments is_sound_with function_name maker_name initializer_name is_function_name is_local_name is_label_name
-nested_sequence = translated_so nested_locals nested nested_code
-    (record {
-      middle = return (calls (Does Newline) []) done;
-      one = record {
-        temporaries = x4 ∷ [];
-        made = x4 ∷ [];
-        middle = _;
-        last = _;
-        is = refl;
-        values = record {
-          first = x4;
-          rest = [];
-          middle = _;
-          are = refl;
-          fresh = fresh x4 (x0 ∷ []) refl;
-          is_local = refl;
-          all = (refl, refl);
-          given = record {
-            middle = _;
-            one = record { temporaries = []; made = []; middle = _; last = _; is = refl; values = (refl, refl); fit = (refl, refl) };
-            all = record {
-              temporary = x3;
-              middle = _;
-              fresh = fresh x3 (x0 ∷ []) refl;
-              is_local = refl;
-              box = refl;
-              value = (
-                refl,
-                record {
-                  temporaries = x1 ∷ x2 ∷ [];
-                  made = x1 ∷ x2 ∷ [];
-                  middle = _;
-                  last = _;
-                  is = refl;
-                  values = record { first = x1; rest = x2 ∷ []; middle = _; are = refl; fresh = fresh x1 (x0 ∷ []) refl; is_local = refl; given = refl; all = record { first = x2; rest = []; middle = _; are = refl; fresh = fresh x2 (x1 ∷ x0 ∷ []) refl; is_local = refl; given = refl; all = (refl, refl) } };
-                  fit = kept_two _ x1 x2 (x1 ∷ x2 ∷ x0 ∷ []) _;
-                },
-              );
-            };
-          };
-        };
-        fit = kept_one _ x4 (x4 ∷ x0 ∷ []) _;
-      };
-      all = (refl, record { temporaries = []; made = []; middle = _; last = _; is = refl; values = (refl, refl); fit = (refl, refl) });
-    })
-    (search rules) refl
+nested_sequence = translated_so (then_so _ (one_kept x4 refl (then_so _ (none_so refl) (boxed_so x3 refl (refl, two_kept x1 x2 _ refl refl refl)))) (refl, none_so refl)) (search rules) refl
 
 -- Parameters --------------------------------------------------------------------------------
 
 -- A parameter as the function's result
 parameter_result : Translated (hello (variable 0)) (unit [] (return (a_local x0) done))
 unfolding Tr TrUnused TrAllUnused TrLast TrArguments is_sound_with function_name maker_name initializer_name is_function_name is_local_name is_label_name
-parameter_result = translated_so [] (variable 0) _ (refl, refl) (search rules) refl
+parameter_result = translated_so (refl, refl) (search rules) refl
 
 -- A parameter as an argument: its word goes to a temporary
 abbrev copied_code : Code
@@ -262,24 +96,12 @@ copied_code = assign x1 (a_local x0) (return (calls (Does Display) (local x1 ∷
 
 parameter_shown : Translated (hello (shown (variable 0))) (unit (var Obj x1 ∷ []) copied_code)
 unfolding Tr TrUnused TrAllUnused TrLast TrArguments is_sound_with function_name maker_name initializer_name is_function_name is_local_name is_label_name
-parameter_shown = translated_so (var Obj x1 ∷ []) (shown (variable 0)) copied_code (
-  refl,
-  record {
-    temporaries = x1 ∷ [];
-    made = x1 ∷ [];
-    middle = _;
-    last = _;
-    is = refl;
-    values = record { first = x1; rest = []; middle = _; are = refl; fresh = fresh x1 (x0 ∷ []) refl; is_local = refl; given = (refl, refl); all = (refl, refl) };
-    fit = kept_one _ x1 (x1 ∷ x0 ∷ []) _;
-  },
-)
-    (search rules) refl
+parameter_shown = translated_so (refl, one_kept x1 refl (refl, refl)) (search rules) refl
 
 -- A parameter that nobody takes has no statement
 parameter_unused : Translated (hello (Sequence (more (variable 0) (more (int 0) none)))) (unit [] (return (a_word 0) done))
 unfolding Tr TrUnused TrAllUnused TrLast TrArguments is_sound_with function_name maker_name initializer_name is_function_name is_local_name is_label_name
-parameter_unused = translated_so [] (Sequence (more (variable 0) (more (int 0) none))) _ (record { middle = _; one = refl; all = refl }) (search rules) refl
+parameter_unused = translated_so (then_so _ refl refl) (search rules) refl
 
 -- Linked programs ---------------------------------------------------------------------------
 
@@ -297,5 +119,4 @@ no_long = refl
 
 -- and the law says so of the module
 faithful : IsFaithful (hello parts ∷ []) (part (codes "hello") (unit (var Obj x1 ∷ []) parts_code) ∷ []) (go_of (codes "hello"))
-unfolding KeepsMeaning
-faithful = keeps_meaning (hello parts ∷ []) (part (codes "hello") (unit (var Obj x1 ∷ []) parts_code) ∷ []) (alone_so [] parts (record { name = search rules; body = search rules }, tt) refl refl) (refl, unused_parts, tt)
+faithful = faithful_so [] parts (unit (var Obj x1 ∷ []) parts_code) (record { name = search rules; body = search rules }, tt) refl refl unused_parts

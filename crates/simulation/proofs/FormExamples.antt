@@ -18,7 +18,8 @@ use Rattle.plan_rules.specs.Joined.{Part, joined}
 use Rattle.plan_rules.specs.Representation.{operation, local}
 use Rattle.plan_rules.specs.Translation.{Tr, TrUnused, TrAllUnused, TrLast, TrArguments, callees, is_sound_with, Translated}
 use Rattle.simulation.specs.Law.{KeepsMeaning, IsFaithful}
-use Rattle.simulation.proofs.ExampleUnits.{fresh, int, sum_of, less_of, shown, f_name, go_name, x0, x1, x2, x3, x4, x5, x6, x7, calls, var, plus, is_less, boxed, a_number, a_word, variable, only, call_first, a_local, calls_in, function, definition, unspecified, last_items, part, go_of, function_so, forms_so, declared_so, kept_one}
+use Rattle.simulation.proofs.ExampleUnits.{int, sum_of, less_of, shown, f_name, go_name, x0, x1, x2, x3, x4, x5, x6, x7, calls, var, plus, is_less, boxed, a_number, a_word, variable, only, call_first, a_local, calls_in, function, definition, unspecified, last_items, part, go_of, function_so, forms_so, declared_so}
+use Rattle.simulation.proofs.ExampleDerivations.{then_so, boxed_so, branch_so, one_kept, first_unboxed}
 use Rattle.simulation.proofs.ImportExamples.{a_name, b_name, called_f, f_callee, used_f, f_declared}
 use Rattle.simulation.proofs.Faithful.{keeps_meaning}
 
@@ -64,136 +65,15 @@ a_unit = defined (definition a_name f_name f_locals f_code) ∷ last_items a_nam
 
 forms_evaluated : Translated exporting a_unit
 unfolding Tr TrUnused TrAllUnused TrLast TrArguments is_sound_with function_name maker_name initializer_name is_function_name is_local_name is_label_name
-forms_evaluated =
-    record {
-      functions = (
-        function_so exporting f_name f_locals f_body f_code
-            (record {
-              temporary = x4;
-              middle = _;
-              fresh = fresh x4 (x0 ∷ []) refl;
-              is_local = refl;
-              box = refl;
-              value = (
-                refl,
-                record {
-                  temporaries = x1 ∷ x2 ∷ [];
-                  made = x3 ∷ x2 ∷ [];
-                  middle = _;
-                  last = _;
-                  is = refl;
-                  values = record { first = x1; rest = x2 ∷ []; middle = _; are = refl; fresh = fresh x1 (x0 ∷ []) refl; is_local = refl; given = (refl, refl); all = record { first = x2; rest = []; middle = _; are = refl; fresh = fresh x2 (x1 ∷ x0 ∷ []) refl; is_local = refl; given = refl; all = (refl, refl) } };
-                  fit = record {
-                    first = x3;
-                    rest = x2 ∷ [];
-                    middle = _;
-                    are = refl;
-                    fits = record { fresh = fresh x3 (x1 ∷ x2 ∷ x0 ∷ []) refl; is_local = refl; is = refl };
-                    all = record { first = x2; rest = []; middle = _; are = refl; fits = (refl, refl); all = (refl, refl) };
-                  };
-                },
-              );
-            }),
-        forms_so exporting a_locals a_code
-            (record {
-              middle = branch_code;
-              one = record {
-                temporaries = x0 ∷ [];
-                made = x0 ∷ [];
-                middle = _;
-                last = _;
-                is = refl;
-                values = record { first = x0; rest = []; middle = _; are = refl; fresh = fresh x0 [] refl; is_local = refl; given = refl; all = (refl, refl) };
-                fit = kept_one _ x0 (x0 ∷ []) _;
-              };
-              all = record {
-                middle = unspecified;
-                all = refl;
-                one = record {
-                  temporary = x5;
-                  middle = _;
-                  first = _;
-                  second = _;
-                  fresh = fresh x5 [] refl;
-                  is_local = refl;
-                  is = refl;
-                  else_taken = refl;
-                  given = (
-                    refl,
-                    record {
-                      temporaries = x2 ∷ x3 ∷ [];
-                      made = x4 ∷ x3 ∷ [];
-                      middle = _;
-                      last = _;
-                      is = refl;
-                      values = record {
-                        first = x2;
-                        rest = x3 ∷ [];
-                        middle = _;
-                        are = refl;
-                        fresh = fresh x2 [] refl;
-                        is_local = refl;
-                        given = (
-                          refl,
-                          record {
-                            temporaries = x1 ∷ [];
-                            made = x1 ∷ [];
-                            middle = _;
-                            last = _;
-                            is = refl;
-                            values = record { first = x1; rest = []; middle = _; are = refl; fresh = fresh x1 [] refl; is_local = refl; given = refl; all = (refl, refl) };
-                            fit = kept_one _ x1 (x1 ∷ []) _;
-                          },
-                        );
-                        all = record { first = x3; rest = []; middle = _; are = refl; fresh = fresh x3 (x2 ∷ []) refl; is_local = refl; given = refl; all = (refl, refl) };
-                      };
-                      fit = record {
-                        first = x4;
-                        rest = x3 ∷ [];
-                        middle = _;
-                        are = refl;
-                        fits = record { fresh = fresh x4 (x2 ∷ x3 ∷ []) refl; is_local = refl; is = refl };
-                        all = record { first = x3; rest = []; middle = _; are = refl; fits = (refl, refl); all = (refl, refl) };
-                      };
-                    },
-                  );
-                  taken = record {
-                    temporaries = x7 ∷ [];
-                    made = x7 ∷ [];
-                    middle = _;
-                    last = _;
-                    is = refl;
-                    values = record {
-                      first = x7;
-                      rest = [];
-                      middle = _;
-                      are = refl;
-                      fresh = fresh x7 [] refl;
-                      is_local = refl;
-                      all = (refl, refl);
-                      given = (
-                        refl,
-                        record {
-                          temporaries = x6 ∷ [];
-                          made = x6 ∷ [];
-                          middle = _;
-                          last = _;
-                          is = refl;
-                          values = record { first = x6; rest = []; middle = _; are = refl; fresh = fresh x6 [] refl; is_local = refl; given = refl; all = (refl, refl) };
-                          fit = kept_one _ x6 (x6 ∷ []) _;
-                        },
-                      );
-                    };
-                    fit = kept_one _ x7 (x7 ∷ []) _;
-                  };
-                };
-              };
-            }),
-      );
-      declarations = tt;
-      named = search rules;
-      sound = refl;
-    }
+forms_evaluated = record {
+  functions = (
+    function_so (boxed_so x4 refl (refl, first_unboxed x1 x2 x3 _ refl refl (refl, refl) refl)),
+    forms_so (then_so _ (one_kept x0 refl refl) (then_so _ (branch_so x5 _ _ refl (refl, first_unboxed x2 x3 x4 _ refl refl (refl, one_kept x1 refl refl) refl) (one_kept x7 refl (refl, one_kept x6 refl refl)) refl) refl)),
+  );
+  declarations = tt;
+  named = search rules;
+  sound = refl;
+}
 
 -- A form that calls a function of another module --------------------------------------------
 
@@ -218,49 +98,7 @@ b_unit = f_declared ∷ defined (definition b_name go_name [] (return (a_word 0)
 
 import_called_by_a_form : Translated importing b_unit
 unfolding Tr TrUnused TrAllUnused TrLast TrArguments is_sound_with function_name maker_name initializer_name is_function_name is_local_name is_label_name
-import_called_by_a_form =
-    record {
-      functions = (
-        function_so importing go_name [] (only (int 0)) _ refl,
-        forms_so importing (var Obj x0 ∷ var Obj x1 ∷ []) b_code
-            (record {
-              middle = unspecified;
-              all = refl;
-              one = record {
-                temporaries = x1 ∷ [];
-                made = x1 ∷ [];
-                middle = _;
-                last = _;
-                is = refl;
-                values = record {
-                  first = x1;
-                  rest = [];
-                  middle = _;
-                  are = refl;
-                  fresh = fresh x1 [] refl;
-                  is_local = refl;
-                  all = (refl, refl);
-                  given = (
-                    refl,
-                    record {
-                      temporaries = x0 ∷ [];
-                      made = x0 ∷ [];
-                      middle = _;
-                      last = _;
-                      is = refl;
-                      values = record { first = x0; rest = []; middle = _; are = refl; fresh = fresh x0 [] refl; is_local = refl; given = refl; all = (refl, refl) };
-                      fit = kept_one _ x0 (x0 ∷ []) _;
-                    },
-                  );
-                };
-                fit = kept_one _ x1 (x1 ∷ []) _;
-              };
-            }),
-      );
-      declarations = (declared_so (callees importing) 1 f_callee refl, tt);
-      named = search rules;
-      sound = refl;
-    }
+import_called_by_a_form = record { functions = (function_so refl, forms_so (then_so _ (one_kept x1 refl (refl, one_kept x0 refl refl)) refl)); declarations = (declared_so (callees importing) 1 f_callee refl, tt); named = search rules; sound = refl }
 
 -- The linked program ------------------------------------------------------------------------
 

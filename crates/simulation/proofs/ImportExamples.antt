@@ -15,7 +15,8 @@ use Rattle.c_meaning.specs.Checked.{is_sound}
 use Rattle.plan_rules.specs.Representation.{raise_count, local}
 use Rattle.plan_rules.specs.Translation.{Name, Tr, TrUnused, TrAllUnused, TrLast, TrArguments, callees, c_name_of, IsDeclared, outside_of, is_sound_with, Translated}
 use Rattle.simulation.proofs.Names.{same_test}
-use Rattle.simulation.proofs.ExampleUnits.{fresh, int, f_name, go_name, x0, x1, x2, var, a_word, variable, call_first, a_local, calls_in, function, definition, empties, function_so, empties_so, declared_so, kept_one}
+use Rattle.simulation.proofs.ExampleUnits.{int, f_name, go_name, x0, x1, x2, var, a_word, variable, call_first, a_local, calls_in, function, definition, empties, function_so, empties_so, declared_so}
+use Rattle.simulation.proofs.ExampleDerivations.{then_so, miscounted_so, one_kept}
 
 -- Modules and units -------------------------------------------------------------------------
 
@@ -76,27 +77,7 @@ calling_unit = f_declared ∷ go_unit (var Obj x1 ∷ []) calling_code
 
 import_called : Translated calling_f calling_unit
 unfolding Tr TrUnused TrAllUnused TrLast TrArguments is_sound_with function_name maker_name initializer_name is_function_name is_local_name is_label_name
-import_called =
-    record {
-      functions = (
-        function_so calling_f go_name (var Obj x1 ∷ []) (used_f (more (int 7) none)) calling_code (
-          refl,
-          record {
-            temporaries = x1 ∷ [];
-            made = x1 ∷ [];
-            middle = _;
-            last = _;
-            is = refl;
-            values = record { first = x1; rest = []; middle = _; are = refl; fresh = fresh x1 (x0 ∷ []) refl; is_local = refl; given = refl; all = (refl, refl) };
-            fit = kept_one _ x1 (x1 ∷ x0 ∷ []) _;
-          },
-        ),
-        empties_so calling_f refl,
-      );
-      declarations = (declared_so (callees calling_f) 1 f_callee refl, tt);
-      named = search rules;
-      sound = refl;
-    }
+import_called = record { functions = (function_so (refl, one_kept x1 refl refl), empties_so refl); declarations = (declared_so (callees calling_f) 1 f_callee refl, tt); named = search rules; sound = refl }
 
 -- The name that it calls is defined elsewhere, so that the unit alone breaks a rule of C
 its_name_is_outside : outside_of calling_f ≡ function_name a_name f_name ∷ []
@@ -124,50 +105,12 @@ mixed_unit = defined (definition b_name (codes "h") [] (return (a_local x0) done
 
 both_called : Translated mixed mixed_unit
 unfolding Tr TrUnused TrAllUnused TrLast TrArguments is_sound_with function_name maker_name initializer_name is_function_name is_local_name is_label_name
-both_called =
-    record {
-      functions = (
-        function_so mixed (codes "h") [] (variable 0) _ (refl, refl),
-        (
-          function_so mixed go_name (var Obj x1 ∷ var Obj x2 ∷ []) mixed_body mixed_code (
-            refl,
-            record {
-              temporaries = x2 ∷ [];
-              made = x2 ∷ [];
-              middle = _;
-              last = _;
-              is = refl;
-              values = record {
-                first = x2;
-                rest = [];
-                middle = _;
-                are = refl;
-                fresh = fresh x2 (x0 ∷ []) refl;
-                is_local = refl;
-                all = (refl, refl);
-                given = (
-                  refl,
-                  record {
-                    temporaries = x1 ∷ [];
-                    made = x1 ∷ [];
-                    middle = _;
-                    last = _;
-                    is = refl;
-                    values = record { first = x1; rest = []; middle = _; are = refl; fresh = fresh x1 (x0 ∷ []) refl; is_local = refl; given = (refl, refl); all = (refl, refl) };
-                    fit = kept_one _ x1 (x1 ∷ x0 ∷ []) _;
-                  },
-                );
-              };
-              fit = kept_one _ x2 (x2 ∷ x0 ∷ []) _;
-            },
-          ),
-          empties_so mixed refl,
-        ),
-      );
-      declarations = (declared_so (callees mixed) 2 f_callee refl, tt);
-      named = search rules;
-      sound = refl;
-    }
+both_called = record {
+  functions = (function_so (refl, refl), (function_so (refl, one_kept x2 refl (refl, one_kept x1 refl (refl, refl))), empties_so refl));
+  declarations = (declared_so (callees mixed) 2 f_callee refl, tt);
+  named = search rules;
+  sound = refl;
+}
 
 -- The wrong number of arguments is known from the row
 abbrev miscalling : ModuleTree
@@ -178,16 +121,7 @@ miscalling_code = call (raise_count 1) (return (a_word 0) done)
 
 import_miscalled : Translated miscalling (f_declared ∷ go_unit [] miscalling_code)
 unfolding Tr TrUnused TrAllUnused TrLast TrArguments is_sound_with function_name maker_name initializer_name is_function_name is_local_name is_label_name
-import_miscalled =
-    record {
-      functions = (
-        function_so miscalling go_name [] (Sequence (more (used_f none) (more (int 0) none))) miscalling_code (record { middle = _; one = record { temporaries = []; middle = _; is = refl; values = (refl, refl) }; all = refl }),
-        empties_so miscalling refl,
-      );
-      declarations = (declared_so (callees miscalling) 1 f_callee refl, tt);
-      named = search rules;
-      sound = refl;
-    }
+import_miscalled = record { functions = (function_so (then_so _ (miscounted_so [] (refl, refl)) refl), empties_so refl); declarations = (declared_so (callees miscalling) 1 f_callee refl, tt); named = search rules; sound = refl }
 
 -- An imported function that is needed and not called ----------------------------------------
 
@@ -196,7 +130,7 @@ needing = importing (g_name ∷ []) (needed_g ∷ []) [] (int 7)
 
 import_needed : Translated needing (go_unit [] (return (a_word 7) done))
 unfolding Tr TrUnused TrAllUnused TrLast TrArguments is_sound_with function_name maker_name initializer_name is_function_name is_local_name is_label_name
-import_needed = record { functions = (function_so needing go_name [] (int 7) _ refl, empties_so needing refl); declarations = tt; named = search rules; sound = refl }
+import_needed = record { functions = (function_so refl, empties_so refl); declarations = tt; named = search rules; sound = refl }
 
 needed_is_not_callable : callee_of needing (Used 0) ≡ None
 needed_is_not_callable = refl

@@ -9,6 +9,7 @@ pub mod Checked
 pub mod Distinct
 pub mod Ends
 pub mod Evaluations
+pub mod ExampleDerivations
 pub mod ExampleUnits
 pub mod Examples
 pub mod Extended
