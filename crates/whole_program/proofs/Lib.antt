@@ -1,9 +1,13 @@
+mod AnyOrder
 mod Chosen
 mod Members
 mod Objects
 mod Places
 mod Programs
 mod Readings
+mod Renumbered
+mod Reordered
 mod Rows
+mod SamePlaces
 mod Visits
 mod Whole

@@ -1,8 +1,9 @@
 -- What is among the items of a list, and what each of them is.
-use Rattle.std.proofs.Common.{◌≡◌, ◌⊎◌, ℕ, zero, suc, Bool, true, false, not, ◌||◌, ◌&&◌, cond, List, [], ◌∷◌, map, Some, find, slice_get, inl, inr, refl, sym, ap, ◌∙◌, subst}
+use Rattle.std.proofs.Common.{◌≡◌, ◌⊎◌, ℕ, zero, suc, Bool, true, false, not, ◌||◌, ◌&&◌, cond, List, [], ◌∷◌, map, filter, length, Some, find, slice_get, inl, inr, refl, sym, ap, ◌∙◌, subst, arith}
 use Rattle.std.specs.List.{list_any, list_all, AllByRecursion as Each}
 use Rattle.std.specs.Cmp.Lexicographic.{bytes_decides}
-use Rattle.std.proofs.lemmas.Bool.{and_parts, not-true, or_parts, true≢false}
+use Rattle.std.proofs.lemmas.Bool.{and_parts, not-true, or_parts, or_left, or_right, true≢false}
+use Rattle.std.proofs.lemmas.Option.{same_Some}
 use Rattle.scheme_data.specs.Names.{are_distinct, is_same}
 
 abbrev pub Among : {A : Type 0} → A → List A → Type 0
@@ -26,10 +27,19 @@ pub each_from : {A : Type 0} (P : A → Type 0) (xs : List A) → ((x : A) → A
 each_from P [] h = tt
 each_from P (x ∷ xs) h = (h x (inl refl), each_from P xs (λ y i. h y (inr i)))
 
+pub each_to : {A : Type 0} (P Q : A → Type 0) → ((x : A) → P x → Q x) → (xs : List A) → Each P xs → Each Q xs
+each_to P Q f [] h = tt
+each_to P Q f (x ∷ xs) h = (f x h.0, each_to P Q f xs h.1)
+
 pub among_at : {A : Type 0} (xs : List A) (k : ℕ) (x : A) → slice_get xs k ≡ Some x → Among x xs
 among_at [] k x e = absurd (cc)
 among_at (y ∷ ys) zero x e = let same : x ≡ y = cc in inl same
 among_at (y ∷ ys) (suc k) x e = inr (among_at ys k x e)
+
+pub among_map : {A B : Type 0} (f : A → B) (xs : List A) (x : A) → Among x xs → Among (f x) (map f xs)
+among_map f [] x i = absurd i
+among_map f (y ∷ ys) x (inl e) = inl (ap f e)
+among_map f (y ∷ ys) x (inr i) = inr (among_map f ys x i)
 
 -- one that passes a test
 pub record Passing {A : Type 0} (p : A → Bool) (xs : List A) : Type 0 where
@@ -50,6 +60,32 @@ none_passes p [] h x i = absurd i
 none_passes p (y ∷ ys) h x (inl e) = ap p e ∙ (or_parts (p y) (list_any p ys) h).0
 none_passes p (y ∷ ys) h x (inr i) = none_passes p ys (or_parts (p y) (list_any p ys) h).1 x i
 
+pub any_of : {A : Type 0} (p : A → Bool) (xs : List A) (x : A) → Among x xs → p x ≡ true → list_any p xs ≡ true
+any_of p [] x i t = absurd i
+any_of p (y ∷ ys) x (inl e) t = or_left (p y) (list_any p ys) (ap p (sym e) ∙ t)
+any_of p (y ∷ ys) x (inr i) t = or_right (p y) (list_any p ys) (any_of p ys x i t)
+
+-- one that passes a test is kept by it
+among_filter : {A : Type 0} (p : A → Bool) (xs : List A) (x : A) → Among x xs → p x ≡ true → Among x (filter p xs)
+among_filter p [] x i t = absurd i
+among_filter p (y ∷ ys) x (inl e) t = subst (λ b. Among x (cond b (y ∷ filter p ys) (filter p ys))) (sym (ap p (sym e) ∙ t)) (inl e)
+among_filter p (y ∷ ys) x (inr i) t = go (p y) (among_filter p ys x i t)
+  where
+    go : (b : Bool) → Among x (filter p ys) → Among x (cond b (y ∷ filter p ys) (filter p ys))
+    go true j = inr j
+    go false j = j
+
+of_one : {A : Type 0} (xs : List A) → length xs ≡ 1 → (x y : A) → Among x xs → Among y xs → x ≡ y
+of_one [] one x y i j = absurd i
+of_one (z ∷ []) one x y (inl e) (inl f) = e ∙ sym f
+of_one (z ∷ []) one x y (inl e) (inr j) = absurd j
+of_one (z ∷ []) one x y (inr i) j = absurd i
+of_one (z ∷ w ∷ ws) one x y i j = absurd (omega arith)
+
+-- where one passes a test, no other does
+pub only_passing : {A : Type 0} (p : A → Bool) (xs : List A) → length (filter p xs) ≡ 1 → (x y : A) → Among x xs → Among y xs → p x ≡ true → p y ≡ true → x ≡ y
+only_passing p xs one x y i j t u = of_one (filter p xs) one x y (among_filter p xs x i t) (among_filter p xs y j u)
+
 pub found_among : {A : Type 0} (p : A → Bool) (xs : List A) (x : A) → find p xs ≡ Some x → Among x xs × (p x ≡ true)
 found_among p [] x e = absurd (cc)
 found_among p (y ∷ ys) x e = go (p y) refl e (λ e1. found_among p ys x e1)
@@ -66,13 +102,8 @@ is_itself x = (bytes_decides x x).1 refl
 pub same_name : (x y : List ℕ) → is_same x y ≡ true → x ≡ y
 same_name x y e = (bytes_decides x y).0 e
 
-among_map : {A : Type 0} (f : A → List ℕ) (xs : List A) (x : A) → Among x xs → Among (f x) (map f xs)
-among_map f [] x i = absurd i
-among_map f (y ∷ ys) x (inl e) = inl (ap f e)
-among_map f (y ∷ ys) x (inr i) = inr (among_map f ys x i)
-
 -- a name before others isn't among them
-behind : (y : List ℕ) (ys : List (List ℕ)) → are_distinct (y ∷ ys) ≡ true → (x : List ℕ) → Among x ys → is_same y x ≡ false
+pub behind : (y : List ℕ) (ys : List (List ℕ)) → are_distinct (y ∷ ys) ≡ true → (x : List ℕ) → Among x ys → is_same y x ≡ false
 behind y ys d x i =
     let parts = and_parts (not (list_any (is_same y) ys)) (are_distinct ys) d in
     none_passes (is_same y) ys (not-true (list_any (is_same y) ys) parts.0) x i
@@ -88,6 +119,10 @@ found name (y ∷ ys) d x (inl e) =
 found name (y ∷ ys) d x (inr i) =
     ap (λ b. cond b (Some y) (find (λ z. is_same (name z) (name x)) ys)) (behind (name y) (map name ys) d (name x) (among_map name ys x i))
     ∙ found name ys (distinct_rest (name y) (map name ys) d) x i
+
+-- no two have one name
+pub one_named : {A : Type 0} (name : A → List ℕ) (xs : List A) → are_distinct (map name xs) ≡ true → (x y : A) → Among x xs → Among y xs → name x ≡ name y → x ≡ y
+one_named name xs d x y i j e = same_Some x y (sym (found name xs d x i) ∙ ap (λ z. find (λ w. is_same (name w) z) xs) e ∙ found name xs d y j)
 
 -- a name stands at one place
 pub one_place : (names : List (List ℕ)) → are_distinct names ≡ true → (j k : ℕ) (x : List ℕ) → slice_get names j ≡ Some x → slice_get names k ≡ Some x → j ≡ k

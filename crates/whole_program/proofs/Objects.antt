@@ -1,7 +1,7 @@
 -- What the objects of modules tell of the modules, where they are linked.
-use Rattle.std.proofs.Common.{◌≡◌, ℕ, zero, suc, Bool, true, false, cond, not, nat_lt, length, List, [], ◌∷◌, map, find, Option, Some, None, slice_get, refl, sym, ap, ap₂, ◌∙◌, subst, if◌then◌else◌}
+use Rattle.std.proofs.Common.{◌≡◌, ℕ, zero, suc, Bool, true, false, cond, not, nat_lt, length, List, [], ◌∷◌, map, find, filter, Option, Some, None, slice_get, refl, sym, ap, ap₂, ◌∙◌, subst, if◌then◌else◌}
 use Rattle.std.specs.List.{list_all, AllByRecursion as Each}
-use Rattle.std.proofs.lemmas.Bool.{and_parts}
+use Rattle.std.proofs.lemmas.Bool.{and_parts, eqb-true}
 use Rattle.scheme_data.specs.Names.{are_distinct, is_same}
 use Rattle.built_table.specs.declared.primitives.Ty.{Ty}
 use Rattle.built_table.specs.declared.primitives.Ty.TheVariants.{Obj, Long, Bool as Truth}
@@ -14,7 +14,7 @@ use Rattle.core_tree.specs.declared.tree.ImportItem.{ImportItem}
 use Rattle.core_tree.specs.declared.tree.Use.{Use}
 use Rattle.core_tree.specs.Tree.{ModuleTree}
 use Rattle.core_tree.specs.WellFormed.{module_of, row_of, IsWellFormed}
-use Rattle.meaning.specs.Order.{onto_chosen, chosen}
+use Rattle.meaning.specs.Order.{has_some, onto_chosen, chosen}
 use Rattle.meaning.specs.Program.{main_in, main_of}
 use Rattle.simulation.specs.Law.{AreTranslated}
 use Rattle.object_text.specs.Format.{ObjectTree}
@@ -24,7 +24,8 @@ use Rattle.linker.specs.declared.linking.LinkErr.{LinkErr}
 use Rattle.linker.specs.declared.linking.LinkErr.TheVariants.{MissingModule}
 use Rattle.linker.specs.Links as links
 use Rattle.linker.specs.Links.{names_of, object_named, exported_row, current_row, same_type, same_types, same_kind, agrees, are_current, or_else, first_refused, missing_module, missing_modules, missing_names, are_modules, has_one_main, most_modules, unless, link_refusal, part_of}
-use Rattle.whole_program.proofs.Members.{each_of}
+use Rattle.linker.proofs.Refused.{one_main}
+use Rattle.whole_program.proofs.Members.{each_of, each_to, only_passing}
 use Rattle.whole_program.proofs.Rows.{HasRow, named, interface_in}
 use Rattle.whole_program.proofs.Programs.{AreLinkable}
 
@@ -180,9 +181,18 @@ all_present names n (o ∷ os) e =
     let parts = both_none (missing_module names n o.imports) (first_refused (λ k o. missing_module names k o.imports) (suc n) os) e in
     (imports_present names n o.imports parts.0, all_present names (suc n) os parts.1)
 
-each_to : {A : Type 0} (P Q : A → Type 0) → ((x : A) → P x → Q x) → (xs : List A) → Each P xs → Each Q xs
-each_to P Q f [] h = tt
-each_to P Q f (x ∷ xs) h = (f x h.0, each_to P Q f xs h.1)
+-- as many modules as objects have a main function
+same_count : (ms : List ModuleTree) (os : List ObjectTree) → AreObjectsOf ms os → length (filter (λ (o : ObjectTree). has_some o.main) os) ≡ length (filter (λ (m : ModuleTree). has_some m.main) ms)
+same_count [] [] h = refl
+same_count [] (o ∷ os) h = absurd h
+same_count (m ∷ ms) [] h = absurd h
+same_count (m ∷ ms) (o ∷ os) h =
+    ap (λ q. length (cond (has_some q) (o ∷ filter (λ (p : ObjectTree). has_some p.main) os) (filter (λ (p : ObjectTree). has_some p.main) os))) h.0.main ∙ go (has_some m.main) (same_count ms os h.1)
+  where
+    go : (b : Bool) → length (filter (λ (p : ObjectTree). has_some p.main) os) ≡ length (filter (λ (n : ModuleTree). has_some n.main) ms)
+        → length (cond b (o ∷ filter (λ (p : ObjectTree). has_some p.main) os) (filter (λ (p : ObjectTree). has_some p.main) os)) ≡ length (cond b (m ∷ filter (λ (n : ModuleTree). has_some n.main) ms) (filter (λ (n : ModuleTree). has_some n.main) ms))
+    go true later = ap suc later
+    go false later = later
 
 -- modules whose objects are linked can be linked
 pub linkable : (ms : List ModuleTree) (os : List ObjectTree) → AreObjectsOf ms os → Each IsWellFormed ms → link_refusal os ≡ None → AreLinkable ms
@@ -197,6 +207,7 @@ linkable ms os h formed e = record {
       (each_to (λ (o : ObjectTree). list_all (λ u. agrees (row_of u) (current_row os u)) o.uses ≡ true) (λ (o : ObjectTree). Each (HasRow (map interface_in ms)) o.uses)
       (λ o q. each_to (λ u. agrees (row_of u) (current_row os u) ≡ true) (HasRow (map interface_in ms)) (λ u r. current (map interface_in ms) u (ap (agrees (row_of u)) (sym (same_rows ms os h (module_of u) (row_of u).name)) ∙ r)) o.uses (each_of (λ u. agrees (row_of u) (current_row os u)) o.uses q))
       os (each_of (λ (o : ObjectTree). list_all (λ u. agrees (row_of u) (current_row os u)) o.uses) os all.are_current_all));
+  one_main = only_passing (λ (m : ModuleTree). has_some m.main) ms (sym (same_count ms os h) ∙ eqb-true (length (filter (λ (o : ObjectTree). has_some o.main) os)) 1 (one_main os e));
 }
   where
     all : AreAccepted os

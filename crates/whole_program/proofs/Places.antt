@@ -1,5 +1,5 @@
 -- Where the modules stand that a module imports.
-use Rattle.std.proofs.Common.{◌≡◌, ℕ, ◌+◌, ◌<◌, Bool, true, false, not, ◌||◌, cond, List, [], ◌∷◌, map, length, get_or, Option, Some, None, slice_get, nat_eq, inl, inr, refl, sym, ap, ◌∙◌, arith}
+use Rattle.std.proofs.Common.{◌≡◌, ℕ, ◌+◌, ◌<◌, Bool, true, false, not, ◌||◌, cond, List, [], ◌∷◌, map, length, get_or, Option, Some, None, position, slice_get, nat_eq, inl, inr, refl, sym, ap, ◌∙◌, arith}
 use Rattle.std.specs.List.{list_any, position_or_len}
 use Rattle.std.specs.Option.{option_map}
 use Rattle.std.specs.Cmp.Lexicographic.{pointwise}
@@ -22,6 +22,10 @@ within p (x ∷ xs) h = go (p x) h (λ e. within p xs e)
     go true any later = omega arith
     go false any later = let rest = later any in omega (arith, rest)
 
+-- where one passes, the first that does has a place
+pub is_found : {A : Type 0} (p : A → Bool) (xs : List A) → list_any p xs ≡ true → position p xs ≡ Some (position_or_len p xs)
+is_found p xs h = ap (λ b. cond b (Some (position_or_len p xs)) None) (lt-ltb (position_or_len p xs) (length xs) (within p xs h))
+
 -- the name stands there, and has this place
 pub record Placed (names : List (List ℕ)) (x : List ℕ) : Type 0 where
   pub place : ℕ
@@ -35,7 +39,7 @@ placed names x h = record { place = place; is = is; stands = slice_get-get_or na
     place = position_or_len (pointwise nat_eq x) names
 
     is : place_of x names ≡ Some place
-    is = ap (λ b. cond b (Some place) None) (lt-ltb place (length names) (within (pointwise nat_eq x) names h))
+    is = is_found (pointwise nat_eq x) names h
 
     parts : (place < length names) × (pointwise nat_eq x (get_or names place []) ≡ true)
     parts = let all = position-Some (pointwise nat_eq x) names place [] is in (all.0, all.1)

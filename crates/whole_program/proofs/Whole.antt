@@ -1,6 +1,8 @@
 -- What objects are linked to means what their sources mean together.
 use Rattle.std.proofs.Common.{◌≡◌, ℕ, List, [], ◌∷◌, map, Some, refl, sym, ap, ap₂, ◌∙◌, subst}
 use Rattle.std.specs.List.{AllByRecursion as Each}
+use Rattle.std.specs.List.Sorted.{IsPermutation}
+use Rattle.std.proofs.lemmas.List.Sorted.{IsPermutation-refl}
 use Rattle.std.proofs.lemmas.Option.{same_Some}
 use Rattle.core_tree.specs.Tree.{ModuleTree}
 use Rattle.core_tree.specs.WellFormed.{IsWellFormed}
@@ -15,7 +17,8 @@ use Rattle.whole_program.specs.Sources.{imports_in, MeansSources}
 use Rattle.whole_program.specs.Law.{Compilation, AreCompiled, sources_of, AreModulesAsCompiled, HaveSameModules, LinkKeepsMeaning}
 use Rattle.whole_program.proofs.Programs.{AreLinkable, is_program}
 use Rattle.whole_program.proofs.Objects.{AreObjectsOf, same_parts, same_names, chosen_objects, translated, same_main, linkable}
-use Rattle.whole_program.proofs.Readings.{IsReadAs, AreReadAs, modules_of, one_modules_of, one_program}
+use Rattle.whole_program.proofs.Readings.{IsReadAs, AreReadAs, modules_of, one_modules_of}
+use Rattle.whole_program.proofs.AnyOrder.{program_in_any_order}
 
 -- Compilations ------------------------------------------------------------------------------
 
@@ -81,16 +84,18 @@ module _ (law : KeepsMeaning) (sources texts : List (List ℕ)) (text : List ℕ
       subst (IsFaithful (chosen ms l.order) (map part_of (chosen l.objects l.order))) (same_Some program.main l.main (sym program.is_main ∙ is_main))
       (law (chosen ms l.order) (map part_of (chosen l.objects l.order)) program (translated (chosen ms l.order) (chosen l.objects l.order) chosen_are))
 
-  means : MeansSources sources text
-  means = record {
-    items = joined (map part_of (chosen l.objects l.order)) l.main;
-    text = l.is_text;
-    checked = faithful.checked;
-    program = chosen ms l.order;
-    is_program = record { modules = ms; are_modules = modules_of sources ms read link; root = l.root; is_root = is_root; order = l.order; is_order = is_order; is = refl };
-    same = λ others is input args turns.
-        faithful.same input args turns ∙ ap (λ (p : List ModuleTree). src p input args turns) (sym (one_program sources ms read link l.root is_root l.order is_order others is));
-  }
+  -- in whatever order the sources stand
+  means : (others : List (List ℕ)) → IsPermutation sources others → MeansSources others text
+  means others p =
+      let have = program_in_any_order sources ms read link l.root is_root l.order is_order others p in
+      record {
+        items = joined (map part_of (chosen l.objects l.order)) l.main;
+        text = l.is_text;
+        checked = faithful.checked;
+        program = chosen ms l.order;
+        is_program = have.is_program;
+        same = λ programs is input args turns. faithful.same input args turns ∙ ap (λ (q : List ModuleTree). src q input args turns) (sym (have.only programs is));
+      }
 
 -- Modules -----------------------------------------------------------------------------------
 
@@ -126,10 +131,12 @@ unfolding LinkKeepsMeaning
 keeps law cs texts text compiled l =
     let all = units cs texts compiled in
     let are : AreObjectsOf all.modules l.objects = subst (AreObjectsOf all.modules) (l.are_objects.only all.objects all.texts_are) all.are in
+    let means_all = means law (sources_of cs) texts text l all.modules all.read all.formed are in
     record {
       objects = texts;
       compiled = compiled;
       linked = l;
       same_modules = same_modules cs texts compiled (linkable all.modules l.objects are all.formed l.accepted);
-      means = means law (sources_of cs) texts text l all.modules all.read all.formed are;
+      means = means_all (sources_of cs) (IsPermutation-refl (sources_of cs));
+      in_any_order = means_all;
     }

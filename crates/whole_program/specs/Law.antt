@@ -1,5 +1,6 @@
 -- The law of separate compilation: what objects are linked to means what their sources mean together.
 use Rattle.std.specs.Prelude.{◌≡◌, ℕ, List, [], ◌∷◌, map}
+use Rattle.std.specs.List.Sorted.{IsPermutation}
 use Rattle.core_tree.specs.Tree.{ModuleTree}
 use Rattle.unit_compile.specs.Compilation.{IsModuleOf, Compiled}
 use Rattle.linker.specs.Links.{Linked}
@@ -40,6 +41,8 @@ pub record IsLinkedFrom (compilations : List Compilation) (text : List ℕ) : Ty
   pub linked : Linked objects text
   pub same_modules : HaveSameModules compilations
   pub means : MeansSources (sources_of compilations) text
+  -- and it means the same of the sources in any order, as the words of a link line may stand
+  pub in_any_order : (others : List (List ℕ)) → IsPermutation (sources_of compilations) others → MeansSources others text
 
 unfoldable pub LinkKeepsMeaning : Type 0
 LinkKeepsMeaning = (compilations : List Compilation) (objects : List (List ℕ)) (text : List ℕ) → AreCompiled compilations objects → Linked objects text → IsLinkedFrom compilations text
