@@ -4,7 +4,7 @@ use Rattle.std.specs.Prelude.{◌+◌, ◌/◌, ◌%◌, nat_lt, if◌then◌els
 use Rattle.std.specs.List.{list_all}
 use Rattle.std.proofs.lemmas.Bool.{ltb-true, ltb-false, and_parts}
 use Rattle.std.proofs.lemmas.Bool.Decides.{nat_tests}
-use Rattle.scheme_data.specs.Symbols.{is_symbol_byte, IsName}
+use Rattle.scheme_data.specs.Symbols.{is_symbol_byte, IsSymbol}
 use Rattle.c_tree.specs.Names.{is_alphanumeric, hex_digit, mangled, function_name, maker_name, initializer_name, is_function_name}
 use Rattle.c_tree.proofs.NameShapes.{AreBytes, function_name-is_function_name, maker_name-is_function_name, initializer_name-is_function_name}
 
@@ -110,12 +110,12 @@ symbols_are_bytes [] e i = omega arith
 symbols_are_bytes (b ∷ bs) e zero = symbol_small b (and_parts (is_symbol_byte b) (list_all is_symbol_byte bs) e).0
 symbols_are_bytes (b ∷ bs) e (suc i) = symbols_are_bytes bs (and_parts (is_symbol_byte b) (list_all is_symbol_byte bs) e).1 i
 
-pub named_function : (m n : List ℕ) → IsName m → IsName n → IsTrue (is_function_name (function_name m n))
+pub named_function : (m n : List ℕ) → IsSymbol m → IsSymbol n → IsTrue (is_function_name (function_name m n))
 named_function m n of_module of_function =
     function_name-is_function_name m n of_module.some of_function.some (symbols_are_bytes m of_module.bytes) (symbols_are_bytes n of_function.bytes)
 
-pub named_maker : (m : List ℕ) → IsName m → IsTrue (is_function_name (maker_name m))
+pub named_maker : (m : List ℕ) → IsSymbol m → IsTrue (is_function_name (maker_name m))
 named_maker m is = maker_name-is_function_name m is.some (symbols_are_bytes m is.bytes)
 
-pub named_initializer : (m : List ℕ) → IsName m → IsTrue (is_function_name (initializer_name m))
+pub named_initializer : (m : List ℕ) → IsSymbol m → IsTrue (is_function_name (initializer_name m))
 named_initializer m is = initializer_name-is_function_name m is.some (symbols_are_bytes m is.bytes)

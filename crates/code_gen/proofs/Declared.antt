@@ -6,7 +6,7 @@ use Rattle.std.proofs.lemmas.Bool.{and_from, and_parts}
 use Rattle.std.proofs.lemmas.List.{map-append}
 use Rattle.std.proofs.lemmas.List.Folds.{list_any-append}
 use Rattle.scheme_data.specs.Names.{are_distinct, is_same}
-use Rattle.scheme_data.specs.Symbols.{IsName}
+use Rattle.scheme_data.specs.Symbols.{IsSymbol}
 use Rattle.core_tree.specs.declared.tree.GlobalRef.{GlobalRef}
 use Rattle.core_tree.specs.declared.tree.GlobalRef.TheVariants.{Own, Used}
 use Rattle.core_tree.specs.declared.tree.Use.{Use}
@@ -117,7 +117,7 @@ used_named m [] all = tt
 used_named m (From k r ∷ us) all = (named_function k r.name all.0.module_name all.0.name, used_named m us all.1)
 used_named m (Need k r ∷ us) all = used_named m us all.1
 
-all_named : (m : ModuleTree) (fs : List FunctionTree) (cs : List Callee) → IsName m.name → AreFunctions m fs → AreNamed cs → AreNamed (map (own_callee m.name) fs ++ cs)
+all_named : (m : ModuleTree) (fs : List FunctionTree) (cs : List Callee) → IsSymbol m.name → AreFunctions m fs → AreNamed cs → AreNamed (map (own_callee m.name) fs ++ cs)
 all_named m [] cs name all others = others
 all_named m (f ∷ fs) cs name all others = (named_function m.name f.name name all.0.name, all_named m fs cs name all.1 others)
 

@@ -1,7 +1,7 @@
 -- The modules of the tests are well formed.
 use Rattle.std.proofs.Common.{◌≡◌, ℕ, zero, suc, ◌<◌, ◌≤◌, List, [], ◌∷◌, ◌++◌, length, Some, refl, sym, ap, ◌∙◌, subst, arith}
 use Rattle.std.specs.Prelude.{codes, nat_eq, slice_get}
-use Rattle.scheme_data.specs.Symbols.{IsName}
+use Rattle.scheme_data.specs.Symbols.{IsSymbol}
 use Rattle.core_tree.specs.declared.tree.Lambda.{Lambda}
 use Rattle.core_tree.specs.declared.tree.Top.{Top}
 use Rattle.core_tree.specs.declared.tree.VarId.{VarId}
@@ -21,7 +21,7 @@ sample_with fs ns = record { name = codes "hello"; imports = sample_imports; fun
 
 uses_formed : (fs : List FunctionTree) (ns : Trees) → IsUse (sample_with fs ns) (From (codes "a") (row_named (codes "f"))) × IsUse (sample_with fs ns) (Need (codes "a") (row_named (codes "g")))
 uses_formed fs ns =
-    let a : IsName (codes "a") = record { some = omega arith; short = omega arith; bytes = refl } in (
+    let a : IsSymbol (codes "a") = record { some = omega arith; short = omega arith; bytes = refl } in (
       record { module_name = a; foreign = refl; name = record { some = omega arith; short = omega arith; bytes = refl }; untyped = ((refl, tt), refl); imported = refl },
       record { module_name = a; foreign = refl; name = record { some = omega arith; short = omega arith; bytes = refl }; untyped = ((refl, tt), refl); imported = refl },
     )

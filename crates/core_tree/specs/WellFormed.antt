@@ -3,7 +3,7 @@ use Rattle.std.specs.Prelude.{◌≡◌, ℕ, List, [], ◌∷◌, map, length, 
 use Rattle.std.specs.List.{list_all, list_any}
 use Rattle.scheme_data.specs.Fixnum.{IsFixnum}
 use Rattle.scheme_data.specs.Names.{is_same, are_distinct}
-use Rattle.scheme_data.specs.Symbols.{IsName}
+use Rattle.scheme_data.specs.Symbols.{IsSymbol}
 use Rattle.built_table.specs.declared.primitives.Ty.{Ty}
 use Rattle.built_table.specs.Table.{params_of}
 use Rattle.name_table.specs.Names.{has_name}
@@ -56,7 +56,7 @@ module _ (m : ModuleTree) (params : List VarId) where
   IsBody (Primitive p ts) = ⊥
 
 pub record IsFunction (m : ModuleTree) (f : FunctionTree) : Type 0 where
-  pub name : IsName f.name
+  pub name : IsSymbol f.name
   pub body : IsBody m f.params f.body
 
 abbrev pub AreFunctions : ModuleTree → List FunctionTree → Type 0
@@ -67,7 +67,7 @@ AreFunctions m (f ∷ fs) = IsFunction m f × AreFunctions m fs
 
 abbrev pub AreNames : List (List ℕ) → Type 0
 AreNames [] = Unit {0}
-AreNames (x ∷ xs) = IsName x × AreNames xs
+AreNames (x ∷ xs) = IsSymbol x × AreNames xs
 
 abbrev pub has_some : List (List ℕ) → Bool
 has_some [] = false
@@ -75,7 +75,7 @@ has_some (x ∷ xs) = true
 
 -- at least one name of a module
 pub record IsImport (i : ImportItem) : Type 0 where
-  pub module_name : IsName i.module_name
+  pub module_name : IsSymbol i.module_name
   pub names : AreNames i.names
   pub some : IsTrue (has_some i.names)
 
@@ -97,9 +97,9 @@ takes m name i = is_same i.module_name m && has_name i.names name
 
 -- a function of another module, which an item names
 pub record IsUse (m : ModuleTree) (u : Use) : Type 0 where
-  pub module_name : IsName (module_of u)
+  pub module_name : IsSymbol (module_of u)
   pub foreign : is_same (module_of u) m.name ≡ false
-  pub name : IsName (row_of u).name
+  pub name : IsSymbol (row_of u).name
   pub untyped : IsUntyped (row_of u).kind
   pub imported : IsTrue (list_any (takes (module_of u) (row_of u).name) m.imports)
 
@@ -143,7 +143,7 @@ IsMain m (Some name) = IsTrue (takes_as_many 1 (function_named m.functions name)
 
 -- functions have names of their own, what is taken from other modules is imported, and what is exported is there
 pub record IsWellFormed (m : ModuleTree) : Type 0 where
-  pub name : IsName m.name
+  pub name : IsSymbol m.name
   pub imports : AreImports m.imports
   pub functions : AreFunctions m m.functions
   pub forms : AreExpressions m [] m.forms

@@ -2,7 +2,7 @@
 use Rattle.std.proofs.Common.{◌≡◌, ◌≢◌, ℕ, ◌+◌, List, [], ◌∷◌, ◌++◌, length, refl, ap, sym, ◌∙◌, subst, append_assoc, arith, Option, Some, None, Result, Ok, Err, Bool, true, false}
 use Rattle.std.proofs.lemmas.List.{length_push, same_from_push}
 use Rattle.std.specs.Prelude.{codes}
-use Rattle.scheme_data.specs.Symbols.{IsName}
+use Rattle.scheme_data.specs.Symbols.{IsSymbol}
 use Rattle.built_table.specs.declared.primitives.Ty.{Ty}
 use Rattle.built_table.specs.declared.primitives.Ty.TheVariants.{Obj, Long, Bool as Truth}
 use Rattle.built_table.specs.Table.{type_name}
@@ -43,7 +43,7 @@ types_lack (t ∷ ts) = lacks_append 10 (type_name t) (more_types ts) (type_lack
 kind_lacks : (k : RowKind) → Lacks 10 (kind_text k)
 kind_lacks (Fun params gives) = lacks_append 10 (types_text params) (codes ") " ++ type_name gives) (types_lack params) (type_lacks gives)
 
-pub row_lacks : (r : Row) → IsName r.name → Lacks 10 (row_line r)
+pub row_lacks : (r : Row) → IsSymbol r.name → Lacks 10 (row_line r)
 row_lacks r h = lacks_append 10 r.name (kind_text r.kind) (lacks_line_end r.name h) (kind_lacks r.kind)
 
 rows_lack : (names : List (List ℕ)) (rs : List Row) → AreRows names rs → AllLack (row_lines rs ++ end_line ∷ [])

@@ -5,7 +5,7 @@ use Rattle.std.specs.List.{list_all}
 use Rattle.std.proofs.lemmas.Bool.{and_parts}
 use Rattle.std.proofs.lemmas.Bool.Decides.{nat_tests}
 use Rattle.std.proofs.lemmas.Slice.Eq.{bytes_eq-Decides}
-use Rattle.scheme_data.specs.Symbols.{is_symbol_byte, IsName}
+use Rattle.scheme_data.specs.Symbols.{is_symbol_byte, IsSymbol}
 use Rattle.built_table.specs.declared.primitives.Ty.{Ty}
 use Rattle.built_table.specs.declared.primitives.Ty.TheVariants.{Obj}
 use Rattle.iface_text.specs.declared.interface.Row.{Row}
@@ -23,7 +23,7 @@ same_is xs ys h = (bytes_eq-Decides xs ys).0 h
 pub is_same : (xs ys : List ℕ) → xs ≡ ys → same_bytes xs ys ≡ true
 is_same xs ys h = (bytes_eq-Decides xs ys).1 h
 
-pub name_is : (n : List ℕ) → is_name n ≡ true → IsName n
+pub name_is : (n : List ℕ) → is_name n ≡ true → IsSymbol n
 name_is n h =
     let p = and_parts (nat_le 1 (length n)) (nat_le (length n) 255 && list_all is_symbol_byte n) h in
     let q = and_parts (nat_le (length n) 255) (list_all is_symbol_byte n) p.1 in
@@ -32,13 +32,13 @@ name_is n h =
 at_most : (m n : ℕ) → m ≤ n → nat_le m n ≡ true
 at_most m n h = grind (arith, nat_tests)
 
-pub is_name_true : (n : List ℕ) → IsName n → is_name n ≡ true
+pub is_name_true : (n : List ℕ) → IsSymbol n → is_name n ≡ true
 is_name_true n h = rw (at_most 1 (length n) h.some, at_most (length n) 255 h.short) h.bytes
 
-pub lacks_blank : (n : List ℕ) → IsName n → Lacks 32 n
+pub lacks_blank : (n : List ℕ) → IsSymbol n → Lacks 32 n
 lacks_blank n h = passes_other is_symbol_byte 32 refl n h.bytes
 
-pub lacks_line_end : (n : List ℕ) → IsName n → Lacks 10 n
+pub lacks_line_end : (n : List ℕ) → IsSymbol n → Lacks 10 n
 lacks_line_end n h = passes_other is_symbol_byte 10 refl n h.bytes
 
 pub some_is : {A : Type 0} (x y : A) → Some x ≡ Some y → x ≡ y
@@ -46,16 +46,16 @@ some_is x y e = cc
 
 -- The name of a module's line ---------------------------------------------------------------
 
-checked_name_some : (line n : List ℕ) → IsName n → line ≡ module_line n → checked_name line n ≡ Some n
+checked_name_some : (line n : List ℕ) → IsSymbol n → line ≡ module_line n → checked_name line n ≡ Some n
 checked_name_some line n h e = rw (is_name_true n h, is_same line (module_line n) e) refl
 
-pub module_line_name_is : (name : List ℕ) → IsName name → module_line_name (module_line name) ≡ Some name
+pub module_line_name_is : (name : List ℕ) → IsSymbol name → module_line_name (module_line name) ≡ Some name
 unfolding module_line_name
 module_line_name_is name h = checked_name_some (module_line name) name h refl
 
 -- the line is that of this module
 pub record ModuleLine (line name : List ℕ) : Type 0 where
-  pub is_name : IsName name
+  pub is_name : IsSymbol name
   pub are : line ≡ module_line name
 
 checked_name_by : (line n name : List ℕ) (v : Bool) → (is_name n && same_bytes line (module_line n)) ≡ v → (if v then Some n else None) ≡ Some name → ModuleLine line name
@@ -68,11 +68,11 @@ pub module_line_sound : (line name : List ℕ) → module_line_name line ≡ Som
 unfolding module_line_name
 module_line_sound line name h = checked_name_by line (drop 7 line) name (is_name (drop 7 line) && same_bytes line (module_line (drop 7 line))) refl h
 
-module_none_by : (line : List ℕ) (o : Option (List ℕ)) → module_line_name line ≡ o → ((name : List ℕ) → IsName name → line ≢ module_line name) → o ≡ None
+module_none_by : (line : List ℕ) (o : Option (List ℕ)) → module_line_name line ≡ o → ((name : List ℕ) → IsSymbol name → line ≢ module_line name) → o ≡ None
 module_none_by line None e h = refl
 module_none_by line (Some name) e h = let m = module_line_sound line name e in absurd (h name m.is_name m.are)
 
-pub module_line_none : (line : List ℕ) → ((name : List ℕ) → IsName name → line ≢ module_line name) → module_line_name line ≡ None
+pub module_line_none : (line : List ℕ) → ((name : List ℕ) → IsSymbol name → line ≢ module_line name) → module_line_name line ≡ None
 module_line_none line h = module_none_by line (module_line_name line) refl h
 
 -- A row -------------------------------------------------------------------------------------
@@ -105,15 +105,15 @@ types_len (suc n) k = omega (arith, length-more n)
 line_len : (name : List ℕ) (n : ℕ) → length (row_line (untyped_row name n)) ≡ 4 + (length name + (2 + (length (types_text (replicate n Obj)) + 5)))
 line_len name n = omega (arith, length-append name (kind_text (Fun (replicate n Obj) Obj)), length-append (types_text (replicate n Obj)) (codes ") obj"))
 
-candidate_is : (name : List ℕ) (n : ℕ) → IsName name → candidate (row_line (untyped_row name n)) (first_word (drop 4 (row_line (untyped_row name n)))) ≡ untyped_row name n
+candidate_is : (name : List ℕ) (n : ℕ) → IsSymbol name → candidate (row_line (untyped_row name n)) (first_word (drop 4 (row_line (untyped_row name n)))) ≡ untyped_row name n
 candidate_is name n h =
     let w : first_word (drop 4 (row_line (untyped_row name n))) ≡ name = first_word_is name _ (lacks_blank name h) in
     ap (candidate (row_line (untyped_row name n))) w ∙ ap (untyped_row name) (ap (λ (k : ℕ). (k - (length name + 10)) / 4) (line_len name n) ∙ types_len n (length name))
 
-checked_some : (line : List ℕ) (r : Row) → IsName r.name → line ≡ row_line r → checked_row line r ≡ Some r
+checked_some : (line : List ℕ) (r : Row) → IsSymbol r.name → line ≡ row_line r → checked_row line r ≡ Some r
 checked_some line r h e = rw (is_name_true r.name h, is_same line (row_line r) e) refl
 
-pub row_of_spelled : (name : List ℕ) (n : ℕ) → IsName name → row_of (row_line (untyped_row name n)) ≡ Some (untyped_row name n)
+pub row_of_spelled : (name : List ℕ) (n : ℕ) → IsSymbol name → row_of (row_line (untyped_row name n)) ≡ Some (untyped_row name n)
 unfolding row_of
 row_of_spelled name n h = ap (checked_row (row_line (untyped_row name n))) (candidate_is name n h) ∙ checked_some (row_line (untyped_row name n)) (untyped_row name n) h refl
 
@@ -140,6 +140,6 @@ pub row_of_none : (line : List ℕ) → NoRow line → row_of line ≡ None
 row_of_none line h = row_none_by line (row_of line) refl h
 
 -- two rows with one line are one
-pub row_once : (r q : Row) → IsName r.name → IsUntyped r.kind → IsName q.name → IsUntyped q.kind → row_line r ≡ row_line q → r ≡ q
+pub row_once : (r q : Row) → IsSymbol r.name → IsUntyped r.kind → IsSymbol q.name → IsUntyped q.kind → row_line r ≡ row_line q → r ≡ q
 row_once r q r_named r_untyped q_named q_untyped e =
     some_is r q (sym (row_of_row (row_line r) r (record { is_name = r_named; is_untyped = r_untyped; are = refl })) ∙ row_of_row (row_line r) q (record { is_name = q_named; is_untyped = q_untyped; are = e }))

@@ -2,7 +2,7 @@
 use Rattle.std.proofs.Common.{◌≡◌, ◌≢◌, ℕ, List, [], ◌∷◌, ◌++◌, Bool, true, false, refl, ap, sym, ◌∙◌, subst, append_assoc, inl, inr, Option, Some, None, if◌then◌else◌, append-nil, lit≤}
 use Rattle.std.specs.Prelude.{codes}
 use Rattle.std.proofs.lemmas.List.{map-append}
-use Rattle.scheme_data.specs.Symbols.{IsName}
+use Rattle.scheme_data.specs.Symbols.{IsSymbol}
 use Rattle.name_table.specs.Names.{has_name}
 use Rattle.iface_text.specs.declared.interface.Row.{Row}
 use Rattle.iface_text.specs.declared.reader.Reader.{Reader}
@@ -22,7 +22,7 @@ pub record IsEmpty (rows : List Row) (names : List (List ℕ)) : Type 0 where
   pub no_names : names ≡ []
 
 pub record Tells (module_name : List ℕ) (rows : List Row) (names : List (List ℕ)) : Type 0 where
-  pub module_is_name : IsName module_name
+  pub module_is_name : IsSymbol module_name
   pub are_rows : AreRows [] rows
   pub names_are : names ≡ names_in rows
 
@@ -71,7 +71,7 @@ version_by : (s : Reader) (line : List ℕ) (t : Reader) (v : Bool) → same_byt
 version_by s line t true e h q = subst (After [] line) (some_is (record s { stage = Module }) t q) (record { sound = h; so_far_is = ap (λ (l : List ℕ). l ∷ []) (sym (same_is line version_line e)) })
 version_by s line t false e h q = absurd (cc)
 
-tells_none : (m : List ℕ) (rs : List Row) (ns : List (List ℕ)) → IsName m → IsEmpty rs ns → Tells m rs ns
+tells_none : (m : List ℕ) (rs : List Row) (ns : List (List ℕ)) → IsSymbol m → IsEmpty rs ns → Tells m rs ns
 tells_none m rs ns named e = rw (e.no_rows, e.no_names) (record { module_is_name = named; are_rows = tt; names_are = refl })
 
 module_by : (s : Reader) (line : List ℕ) (t : Reader) (o : Option (List ℕ)) → module_line_name line ≡ o → IsEmpty s.rows s.names
@@ -138,7 +138,7 @@ done_after m i rs line others e =
 no_version : (s : Reader) (line : List ℕ) → step_version s line ≡ None → line ≢ version_line
 no_version s line q e = let p : same_bytes line version_line ≡ true = is_same line version_line e in let z = rw p at q in absurd (cc)
 
-no_module : (s : Reader) (line name : List ℕ) → step_module s line ≡ None → IsName name → line ≢ module_line name
+no_module : (s : Reader) (line name : List ℕ) → step_module s line ≡ None → IsSymbol name → line ≢ module_line name
 no_module s line name q h e =
     let p : module_line_name line ≡ Some name = ap module_line_name e ∙ module_line_name_is name h in
     let z = rw p at q in absurd (cc)

@@ -1,6 +1,6 @@
 -- The text of an interface, a format of this project's own: a line for each function that a module exports.
 use Rattle.std.specs.Prelude.{◌≡◌, ℕ, List, [], ◌∷◌, ◌++◌, map, codes, false}
-use Rattle.scheme_data.specs.Symbols.{IsName}
+use Rattle.scheme_data.specs.Symbols.{IsSymbol}
 use Rattle.built_table.specs.declared.primitives.Ty.{Ty}
 use Rattle.built_table.specs.declared.primitives.Ty.TheVariants.{Obj}
 use Rattle.built_table.specs.Table.{type_name}
@@ -72,7 +72,7 @@ IsUntyped (Fun params gives) = AreUntyped params × (gives ≡ Obj)
 
 -- a row after those of other names
 pub record IsRow (names : List (List ℕ)) (r : Row) : Type 0 where
-  pub is_name : IsName r.name
+  pub is_name : IsSymbol r.name
   pub is_new : has_name names r.name ≡ false
   pub is_untyped : IsUntyped r.kind
 
@@ -82,5 +82,5 @@ AreRows names [] = Unit {0}
 AreRows names (r ∷ rs) = IsRow names r × AreRows (names ++ r.name ∷ []) rs
 
 pub record HasSpelling (i : IfaceTree) : Type 0 where
-  pub module_is_name : IsName i.module_name
+  pub module_is_name : IsSymbol i.module_name
   pub are_rows : AreRows [] i.rows

@@ -2,7 +2,7 @@
 use Rattle.std.specs.Prelude.{◌≡◌, ◌≢◌, ℕ, ◌+◌, ◌-◌, ◌/◌, List, Bool, not, ◌&&◌, if◌then◌else◌, nat_eq, nat_le, IsTrue, length, take, drop, replicate, Option, Some, None}
 use Rattle.std.specs.List.{list_all, prefix_len}
 use Rattle.std.specs.Cmp.Lexicographic.{pointwise}
-use Rattle.scheme_data.specs.Symbols.{is_symbol_byte, IsName}
+use Rattle.scheme_data.specs.Symbols.{is_symbol_byte, IsSymbol}
 use Rattle.built_table.specs.declared.primitives.Ty.TheVariants.{Obj}
 use Rattle.iface_text.specs.declared.interface.Row.{Row}
 use Rattle.iface_text.specs.declared.interface.RowKind.TheVariants.{Fun}
@@ -34,13 +34,13 @@ untyped_row name params = record { name = name; kind = Fun (replicate params Obj
 
 -- the line is that of this row
 pub record RowLine (line : List ℕ) (r : Row) : Type 0 where
-  pub is_name : IsName r.name
+  pub is_name : IsSymbol r.name
   pub is_untyped : IsUntyped r.kind
   pub are : line ≡ row_line r
 
 -- no such function's row has this line
 abbrev pub NoRow : List ℕ → Type 0
-NoRow line = (name : List ℕ) (params : ℕ) → IsName name → line ≢ row_line (untyped_row name params)
+NoRow line = (name : List ℕ) (params : ℕ) → IsSymbol name → line ≢ row_line (untyped_row name params)
 
 -- the row, where the line is its spelling
 abbrev pub checked_row : List ℕ → Row → Option Row

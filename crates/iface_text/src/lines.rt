@@ -1,7 +1,7 @@
 // A line of an interface's text, taken apart.
 ghost use Rattle.std.specs.Prelude.{◌≡◌, ◌≢◌, ◌≤◌, ◌++◌, ◌∷◌, ℕ, length, IsTrue, ◌↔◌, IfOk, IfSome, IfNone, MatchOption, replicate};
 ghost use Rattle.std.specs.List.{prefix_len, list_all};
-ghost use Rattle.scheme_data.specs.Symbols.{is_symbol_byte, IsName};
+ghost use Rattle.scheme_data.specs.Symbols.{is_symbol_byte, IsSymbol};
 ghost use Rattle.built_table.specs.declared.primitives.Ty.TheVariants.{Obj};
 ghost use Rattle.iface_text.specs.Format.{types_text, row_line};
 ghost use Rattle.iface_text.specs.Lines.{other_than, Lacks, module_line_name, row_of, untyped_row, NoRow, RowLine};
@@ -60,7 +60,7 @@ fn are_symbols(bytes: &[u8]) -> bool
 
 /// Whether the bytes are a name.
 pub fn is_name(bytes: &[u8]) -> bool
-    ensures { IsTrue result ↔ IsName bytes.now }
+    ensures { IsTrue result ↔ IsSymbol bytes.now }
 {
     !bytes.is_empty() && bytes.len() <= 255 && are_symbols(bytes)
 }
@@ -94,7 +94,7 @@ fn count_of_types(types: &[u8]) -> Option<usize>
 }
 
 fn parts_of_row(line: &[u8]) -> Option<RowParts<'_>>
-    ensures some { IfSome result (λ p. IsName p.name.now) }
+    ensures some { IfSome result (λ p. IsSymbol p.name.now) }
     ensures are { IfSome result (λ p. line.now ≡ row_line (untyped_row p.name.now p.params)) }
     ensures none { IfNone result (NoRow line.now) }
 {

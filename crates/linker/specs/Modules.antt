@@ -1,6 +1,6 @@
 -- Objects that are read and the units that are joined, seen as plain trees, and what is known of them on the way.
 use Rattle.std.specs.Prelude.{◌≡◌, ℕ, List, [], ◌∷◌, map, slice_get, false, IsTrue, Some, None, Result, Ok, Err}
-use Rattle.scheme_data.specs.Symbols.{IsName}
+use Rattle.scheme_data.specs.Symbols.{IsSymbol}
 use Rattle.iface_text.specs.declared.interface.Row.{Row}
 use Rattle.c_tree.specs.Functions.{items_of}
 use Rattle.c_tree.specs.Names.{is_function_name, function_name}
@@ -62,7 +62,7 @@ abbrev pub unit_names : List NamedUnit → List (List ℕ)
 unit_names units = map (λ u. u.module_name) units
 
 pub record NamedPart (p : Part) : Type 0 where
-  pub module_name : IsName p.module_name
+  pub module_name : IsSymbol p.module_name
   pub items : NamedItems p.items
 
 -- Links -------------------------------------------------------------------------------------

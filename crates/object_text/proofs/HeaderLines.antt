@@ -2,7 +2,7 @@
 use Rattle.std.proofs.Common.{◌≡◌, ◌≢◌, ℕ, List, [], ◌∷◌, ◌++◌, refl, ap, sym, ◌∙◌, subst, append_assoc, true, false, Option, Some, None}
 use Rattle.std.specs.Prelude.{codes, length}
 use Rattle.std.proofs.lemmas.List.{append_cancel_left}
-use Rattle.scheme_data.specs.Symbols.{IsName}
+use Rattle.scheme_data.specs.Symbols.{IsSymbol}
 use Rattle.iface_text.specs.declared.interface.Row.{Row}
 use Rattle.iface_text.specs.Format.{row_line}
 use Rattle.core_tree.specs.declared.tree.ImportItem.{ImportItem}
@@ -18,7 +18,7 @@ use Rattle.object_text.proofs.Starts.{starts_with}
 
 -- Names -------------------------------------------------------------------------------------
 
-name_once : Once name_text IsName EndsName
+name_once : Once name_text IsSymbol EndsName
 name_once bytes a b r s h k =
     let z = named_once bytes (codes " ") a r b s (record { are = h.are; is_name = h.is_part; stops = h.ends }) (record { are = k.are; is_name = k.is_part; stops = k.ends }) in
     record { part = z.name; rest = z.rest }
@@ -30,11 +30,11 @@ pub names_text : (ns : List (List ℕ)) → more_names ns ≡ texts name_text ns
 names_text [] = refl
 names_text (x ∷ xs) = ap (λ (bs : List ℕ). 32 ∷ (x ++ bs)) (names_text xs)
 
-all_names : (ns : List (List ℕ)) → AreNames ns → AllAre IsName ns
+all_names : (ns : List (List ℕ)) → AreNames ns → AllAre IsSymbol ns
 all_names [] h = tt
 all_names (x ∷ xs) h = (h.0, all_names xs h.1)
 
-are_names : (ns : List (List ℕ)) → AllAre IsName ns → AreNames ns
+are_names : (ns : List (List ℕ)) → AllAre IsSymbol ns → AreNames ns
 are_names [] h = tt
 are_names (x ∷ xs) h = (h.0, are_names xs h.1)
 
@@ -49,7 +49,7 @@ import_bytes i rest = regrouped (codes "import ") i.module_name (more_names i.na
 import_named : (bytes : List ℕ) (i : ImportItem) (rest : List ℕ) → IsFirst import_text IsImport Anything bytes i rest → IsNamed bytes (codes "import ") i.module_name (texts name_text i.names ++ 10 ∷ rest)
 import_named bytes i rest h = record { are = h.are ∙ import_bytes i rest; is_name = h.is_part.module_name; stops = rest_ends name_text EndsName i.names (10 ∷ rest) name_follows refl }
 
-import_names : (i : ImportItem) (rest after : List ℕ) → IsImport i → after ≡ texts name_text i.names ++ 10 ∷ rest → IsRun name_text IsName EndsName after i.names (10 ∷ rest)
+import_names : (i : ImportItem) (rest after : List ℕ) → IsImport i → after ≡ texts name_text i.names ++ 10 ∷ rest → IsRun name_text IsSymbol EndsName after i.names (10 ∷ rest)
 import_names i rest after h e = record { are = e; are_parts = all_names i.names h.names; ends = refl; none = λ x r k. let q : 10 ∷ rest ≡ 32 ∷ (x ++ r) = k.are in absurd (cc) }
 
 -- the parts of an import line
@@ -58,11 +58,11 @@ pub record SameImport (m : List ℕ) (ns : List (List ℕ)) (left : List ℕ) (i
   pub names : ns ≡ i.names
   pub rest_is : left ≡ 10 ∷ rest
 
-pub same_import : (bytes m after : List ℕ) (ns : List (List ℕ)) (left : List ℕ) (i : ImportItem) (rest : List ℕ) → IsNamed bytes (codes "import ") m after → IsRun name_text IsName EndsName after ns left
+pub same_import : (bytes m after : List ℕ) (ns : List (List ℕ)) (left : List ℕ) (i : ImportItem) (rest : List ℕ) → IsNamed bytes (codes "import ") m after → IsRun name_text IsSymbol EndsName after ns left
     → IsFirst import_text IsImport Anything bytes i rest → SameImport m ns left i rest
 same_import bytes m after ns left i rest named run h =
     let s = named_once bytes (codes "import ") m after i.module_name (texts name_text i.names ++ 10 ∷ rest) named (import_named bytes i rest h) in
-    let t = runs_once name_text IsName EndsName name_once name_follows after ns i.names left (10 ∷ rest) run (import_names i rest after h.is_part s.rest) in
+    let t = runs_once name_text IsSymbol EndsName name_once name_follows after ns i.names left (10 ∷ rest) run (import_names i rest after h.is_part s.rest) in
     record { module_name = s.name; names = t.parts; rest_is = t.rest }
 
 pub import_once : Once import_text IsImport Anything
@@ -79,7 +79,7 @@ some_names : (ns : List (List ℕ)) → length ns ≢ 0 → has_some ns ≡ true
 some_names [] h = absurd (h refl)
 some_names (x ∷ xs) h = refl
 
-pub no_names : (bytes m after : List ℕ) (ns : List (List ℕ)) (left : List ℕ) → IsNamed bytes (codes "import ") m after → IsRun name_text IsName EndsName after ns left → length ns ≡ 0 → NoFirst import_text IsImport Anything bytes
+pub no_names : (bytes m after : List ℕ) (ns : List (List ℕ)) (left : List ℕ) → IsNamed bytes (codes "import ") m after → IsRun name_text IsSymbol EndsName after ns left → length ns ≡ 0 → NoFirst import_text IsImport Anything bytes
 no_names bytes m after ns left named run none i rest h =
     let s = same_import bytes m after ns left i rest named run h in
     empty i.names (sym (ap length s.names) ∙ none) h.is_part.some where
@@ -87,16 +87,16 @@ no_names bytes m after ns left named run none i rest h =
       empty [] z e = absurd (cc)
       empty (x ∷ xs) z e = absurd (cc)
 
-pub no_import_end : (bytes m after : List ℕ) (ns : List (List ℕ)) (left : List ℕ) → IsNamed bytes (codes "import ") m after → IsRun name_text IsName EndsName after ns left
+pub no_import_end : (bytes m after : List ℕ) (ns : List (List ℕ)) (left : List ℕ) → IsNamed bytes (codes "import ") m after → IsRun name_text IsSymbol EndsName after ns left
     → ((r : List ℕ) → left ≢ 10 ∷ r) → NoFirst import_text IsImport Anything bytes
 no_import_end bytes m after ns left named run none i rest h = let s = same_import bytes m after ns left i rest named run h in none rest s.rest_is
 
-pub import_found : (bytes m after : List ℕ) (ns : List (List ℕ)) (left : List ℕ) (i : ImportItem) (rest : List ℕ) → IsNamed bytes (codes "import ") m after → IsRun name_text IsName EndsName after ns left
+pub import_found : (bytes m after : List ℕ) (ns : List (List ℕ)) (left : List ℕ) (i : ImportItem) (rest : List ℕ) → IsNamed bytes (codes "import ") m after → IsRun name_text IsSymbol EndsName after ns left
     → length ns ≢ 0 → left ≡ 10 ∷ rest → i.module_name ≡ m → i.names ≡ ns → IsFirst import_text IsImport Anything bytes i rest
 import_found bytes m after ns left i rest named run some e mi ni = record {
   are = named.are ∙ ap (λ (bs : List ℕ). codes "import " ++ (m ++ bs)) (run.are ∙ ap (λ (bs : List ℕ). texts name_text ns ++ bs) e) ∙ same_bytes ∙ sym (import_bytes i rest);
   is_part = record {
-    module_name = subst IsName (sym mi) named.is_name;
+    module_name = subst IsSymbol (sym mi) named.is_name;
     names = subst AreNames (sym ni) (are_names ns run.are_parts);
     some = subst (λ (xs : List (List ℕ)). has_some xs ≡ true) (sym ni) (some_names ns some);
   };
@@ -180,7 +180,7 @@ main_bytes f rest = grouped f (codes " (obj) obj") rest where
 main_end : (f rest : List ℕ) → main_text (Some f) ++ rest ≡ main_line f ++ 10 ∷ rest
 main_end f rest = append_assoc (main_line f) (10 ∷ []) rest
 
-main_named : (bytes f rest : List ℕ) → IsName f → bytes ≡ main_line f ++ 10 ∷ rest → IsNamed bytes (codes "main fun ") f (codes " (obj) obj\n" ++ rest)
+main_named : (bytes f rest : List ℕ) → IsSymbol f → bytes ≡ main_line f ++ 10 ∷ rest → IsNamed bytes (codes "main fun ") f (codes " (obj) obj\n" ++ rest)
 main_named bytes f rest h e = record { are = e ∙ sym (main_end f rest) ∙ main_bytes f rest; is_name = h; stops = refl }
 
 pub no_main_end : (bytes f after : List ℕ) → IsNamed bytes (codes "main fun ") f after → ((r : List ℕ) → after ≢ codes " (obj) obj\n" ++ r) → IsMainRead bytes None bytes
@@ -194,7 +194,7 @@ no_main_end bytes f after named none = record {
 pub main_found : (bytes f name after rest : List ℕ) → IsNamed bytes (codes "main fun ") f after → after ≡ codes " (obj) obj\n" ++ rest → name ≡ f → IsMainRead bytes (Some name) rest
 main_found bytes f name after rest named e q = record {
   are = named.are ∙ ap (λ (bs : List ℕ). codes "main fun " ++ (f ++ bs)) e ∙ ap (λ (x : List ℕ). codes "main fun " ++ (x ++ (codes " (obj) obj\n" ++ rest))) (sym q) ∙ sym (main_bytes name rest);
-  is_name = subst IsName (sym q) named.is_name;
+  is_name = subst IsSymbol (sym q) named.is_name;
   none = tt;
 }
 

@@ -1,7 +1,7 @@
 -- A header, taken apart in the one way.
 use Rattle.std.proofs.Common.{◌≡◌, ℕ, List, [], ◌∷◌, ◌++◌, map, refl, ap, sym, ◌∙◌, subst, append_assoc, append-nil, Option, Some, None}
 use Rattle.std.specs.Prelude.{codes}
-use Rattle.scheme_data.specs.Symbols.{IsName}
+use Rattle.scheme_data.specs.Symbols.{IsSymbol}
 use Rattle.iface_text.specs.declared.interface.Row.{Row}
 use Rattle.iface_text.specs.Format.{ended}
 use Rattle.core_tree.specs.declared.tree.ImportItem.{ImportItem}
@@ -166,7 +166,7 @@ pub lines_found : (bytes m rest rest0 : List ℕ) (is : List ImportItem) (rest1 
     → AreRead bytes m rest rest0 is rest1 us rest2 es rest3 f rest4 → SameLines m is us es f rest4 o unit → AreLines bytes o unit
 lines_found bytes m rest rest0 is rest1 us rest2 es rest3 f rest4 unit o r s = record {
   are = together ∙ same_text ∙ sym (header_bytes o unit);
-  module_name = subst IsName s.module_name r.named.is_name;
+  module_name = subst IsSymbol s.module_name r.named.is_name;
   imports = subst AreImports s.imports (are_imports is r.imports.are_parts);
   uses = subst AreUseRows s.uses (are_uses us r.uses.are_parts);
   exports = subst (AllAre IsUntypedRow) s.exports r.exports.are_parts;

@@ -2,7 +2,7 @@
 use Rattle.std.proofs.Common.{◌≡◌, ℕ, zero, suc, ◌*◌, List, [], ◌∷◌, ◌++◌, length, replicate, refl, ap, sym, ◌∙◌, subst, append_assoc, arith}
 use Rattle.std.specs.Prelude.{codes}
 use Rattle.std.proofs.lemmas.List.{append_cancel_left, append_cancel_right}
-use Rattle.scheme_data.specs.Symbols.{is_symbol_byte, IsName}
+use Rattle.scheme_data.specs.Symbols.{is_symbol_byte, IsSymbol}
 use Rattle.built_table.specs.declared.primitives.Ty.{Ty}
 use Rattle.built_table.specs.declared.primitives.Ty.TheVariants.{Obj}
 use Rattle.iface_text.specs.declared.interface.Row.{Row}
@@ -39,7 +39,7 @@ types_lack : (n : ℕ) → Lacks 10 (types_text (replicate n Obj))
 types_lack zero = refl
 types_lack (suc n) = more_lacks n
 
-untyped_lacks : (name : List ℕ) (n : ℕ) → IsName name → Lacks 10 (row_line (untyped_row name n))
+untyped_lacks : (name : List ℕ) (n : ℕ) → IsSymbol name → Lacks 10 (row_line (untyped_row name n))
 untyped_lacks name n h =
     lacks_append 10 name (kind_text (Fun (replicate n Obj) Obj)) (passes_other is_symbol_byte 10 refl name h.bytes)
     (lacks_append 10 (types_text (replicate n Obj)) (codes ") obj") (types_lack n) refl)
@@ -57,7 +57,7 @@ same_count zero (suc m) e = absurd (omega arith)
 same_count (suc n) zero e = absurd (omega arith)
 same_count (suc n) (suc m) e = omega (arith, length-more n, length-more m)
 
-untyped_once : (x y : List ℕ) (n m : ℕ) → IsName x → IsName y → row_line (untyped_row x n) ≡ row_line (untyped_row y m) → untyped_row x n ≡ untyped_row y m
+untyped_once : (x y : List ℕ) (n m : ℕ) → IsSymbol x → IsSymbol y → row_line (untyped_row x n) ≡ row_line (untyped_row y m) → untyped_row x n ≡ untyped_row y m
 untyped_once x y n m h k e =
     let s = named_once (row_line (untyped_row x n)) (codes "fun ") x (kind_text (Fun (replicate n Obj) Obj)) y (kind_text (Fun (replicate m Obj) Obj))
     (record { are = refl; is_name = h; stops = refl }) (record { are = e; is_name = k; stops = refl }) in

@@ -1,6 +1,6 @@
 -- The format of an object text: header lines, and then the C text of the unit to the end.
 use Rattle.std.specs.Prelude.{◌≡◌, ℕ, List, [], ◌∷◌, ◌++◌, map, codes, IsTrue, Option, Some, None}
-use Rattle.scheme_data.specs.Symbols.{IsName}
+use Rattle.scheme_data.specs.Symbols.{IsSymbol}
 use Rattle.iface_text.specs.declared.interface.Row.{Row}
 use Rattle.iface_text.specs.Format.{IsUntyped, AreRows, row_line, module_line, ended}
 use Rattle.iface_text.specs.Lines.{untyped_row}
@@ -68,8 +68,8 @@ header_lines o =
 -- What has a text ---------------------------------------------------------------------------
 
 pub record IsUseRow (u : Use) : Type 0 where
-  pub module_name : IsName (module_of u)
-  pub name : IsName (row_of u).name
+  pub module_name : IsSymbol (module_of u)
+  pub name : IsSymbol (row_of u).name
   pub untyped : IsUntyped (row_of u).kind
 
 abbrev pub AreUseRows : List Use → Type 0
@@ -78,11 +78,11 @@ AreUseRows (u ∷ us) = IsUseRow u × AreUseRows us
 
 abbrev pub IsMainName : Option (List ℕ) → Type 0
 IsMainName None = Unit {0}
-IsMainName (Some f) = IsName f
+IsMainName (Some f) = IsSymbol f
 
 -- names are names, what is called comes before what is imported besides, and no two exports have one name
 pub record HasHeader (o : ObjectTree) : Type 0 where
-  pub module_name : IsName o.module_name
+  pub module_name : IsSymbol o.module_name
   pub imports : AreImports o.imports
   pub uses : AreUseRows o.uses
   pub ordered : IsTrue (are_ordered o.uses)

@@ -1,6 +1,6 @@
 -- The lines of a header one by one, and how each is found at the start of some bytes.
 use Rattle.std.specs.Prelude.{◌≡◌, ◌≢◌, ℕ, List, [], ◌∷◌, ◌++◌, Bool, true, false, not, ◌&&◌, Option, Some, None}
-use Rattle.scheme_data.specs.Symbols.{is_symbol_byte, IsName}
+use Rattle.scheme_data.specs.Symbols.{is_symbol_byte, IsSymbol}
 use Rattle.name_table.specs.Names.{has_name}
 use Rattle.iface_text.specs.declared.interface.Row.{Row}
 use Rattle.iface_text.specs.Format.{IsUntyped, row_line}
@@ -20,7 +20,7 @@ EndsName rest = Stops is_symbol_byte rest
 
 pub record IsNamed (bytes front name rest : List ℕ) : Type 0 where
   pub are : bytes ≡ front ++ (name ++ rest)
-  pub is_name : IsName name
+  pub is_name : IsSymbol name
   pub stops : EndsName rest
 
 abbrev pub NotNamed : List ℕ → List ℕ → Type 0
@@ -44,13 +44,13 @@ abbrev pub export_text : Row → List ℕ
 export_text r = export_line r ++ 10 ∷ []
 
 pub record IsUntypedRow (r : Row) : Type 0 where
-  pub name : IsName r.name
+  pub name : IsSymbol r.name
   pub untyped : IsUntyped r.kind
 
 -- the bytes begin with this word, a module's name and a row
 pub record IsUsed (bytes front name : List ℕ) (r : Row) (rest : List ℕ) : Type 0 where
   pub are : bytes ≡ front ++ (name ++ (32 ∷ (row_text r ++ rest)))
-  pub is_name : IsName name
+  pub is_name : IsSymbol name
   pub row : IsUntypedRow r
 
 abbrev pub NotUsed : List ℕ → List ℕ → Type 0
@@ -68,7 +68,7 @@ main_text None = []
 main_text (Some f) = main_line f ++ 10 ∷ []
 
 abbrev pub NotMain : List ℕ → Type 0
-NotMain bytes = (f rest : List ℕ) → IsName f → bytes ≢ main_line f ++ (10 ∷ rest)
+NotMain bytes = (f rest : List ℕ) → IsSymbol f → bytes ≢ main_line f ++ (10 ∷ rest)
 
 -- where no main line was read, none stands there
 abbrev pub NoneLeft : Option (List ℕ) → List ℕ → Type 0

@@ -1,6 +1,6 @@
 -- What the lines before the unit tell.
 use Rattle.std.specs.Prelude.{◌≡◌, ℕ, List, ◌++◌}
-use Rattle.scheme_data.specs.Symbols.{IsName}
+use Rattle.scheme_data.specs.Symbols.{IsSymbol}
 use Rattle.iface_text.specs.Format.{ended}
 use Rattle.core_tree.specs.WellFormed.{AreImports}
 use Rattle.c_tree.specs.Code.{Item}
@@ -16,7 +16,7 @@ tree_of h items = record { module_name = h.module_name; imports = h.imports; use
 -- the bytes are such lines, each right by itself, and then the unit
 pub record AreLines (bytes : List ℕ) (o : ObjectTree) (unit : List ℕ) : Type 0 where
   pub are : bytes ≡ ended (header_lines o) ++ unit
-  pub module_name : IsName o.module_name
+  pub module_name : IsSymbol o.module_name
   pub imports : AreImports o.imports
   pub uses : AreUseRows o.uses
   pub exports : AllAre IsUntypedRow o.exports

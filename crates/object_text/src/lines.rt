@@ -1,6 +1,6 @@
 // The parts of a header, each by itself, both ways.
 ghost use Rattle.std.specs.Prelude.{◌≡◌, ◌<◌, ◌++◌, ◌∷◌, length, IfOk, OnOk, IfSome, IfNone};
-ghost use Rattle.scheme_data.specs.Symbols.{IsName};
+ghost use Rattle.scheme_data.specs.Symbols.{IsSymbol};
 ghost use Rattle.core_tree.specs.WellFormed.{IsImport};
 ghost use Rattle.object_text.specs.Format.{IsUseRow};
 ghost use Rattle.object_text.specs.Header.{name_text, import_text, use_text, row_text, export_text, EndsName, IsUntypedRow, IsUsed, NotUsed, main_text, IsMainRead};
@@ -30,9 +30,9 @@ pub struct MainRead<'a> {
 
 /// The name after a blank; none where there is no blank, or no name.
 pub fn read_name<'a>(alloc: Global, bytes: &'a [u8]) -> Result<Option<First<'a, Text>>, OutOfMemory>
-    ensures some { IfOk result (λ first. IfSome first (λ f. IsFirst name_text IsName EndsName bytes.now f.part f.rest.now)) }
+    ensures some { IfOk result (λ first. IfSome first (λ f. IsFirst name_text IsSymbol EndsName bytes.now f.part f.rest.now)) }
     ensures shorter { IfOk result (λ first. IfSome first (λ f. length f.rest.now < length bytes.now)) }
-    ensures none { IfOk result (λ first. IfNone first (NoFirst name_text IsName EndsName bytes.now)) }
+    ensures none { IfOk result (λ first. IfNone first (NoFirst name_text IsSymbol EndsName bytes.now)) }
 {
     let Some(named) = named_after(bytes, b" ") else {
         return Ok(None);

@@ -76,12 +76,12 @@ pub fn write_run<T: Part>(text: &mut Text, parts: &[T]) -> Result<(), OutOfMemor
 
 /// A name, with a blank before it.
 impl Part for Text {
-    ghost use Rattle.scheme_data.specs.Symbols.{IsName};
+    ghost use Rattle.scheme_data.specs.Symbols.{IsSymbol};
     ghost use Rattle.object_text.specs.Header.{name_text, EndsName};
 
     ghost spelled = { name_text };
 
-    ghost IsPart = { IsName };
+    ghost IsPart = { IsSymbol };
 
     ghost Ends = { EndsName };
 

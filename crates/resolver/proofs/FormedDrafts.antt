@@ -4,7 +4,7 @@ use Rattle.std.specs.List.{list_any, list_all}
 use Rattle.std.proofs.lemmas.Bool.{and_parts}
 use Rattle.scheme_data.specs.Names.{is_same, are_distinct}
 use Rattle.scheme_data.specs.Data.{Plain, Number, Character, Truth, Unspecified, String, Symbol, Listed, Dotted, Vector, Plains, none, more, IsProper, AreProper}
-use Rattle.scheme_data.specs.Symbols.{IsName}
+use Rattle.scheme_data.specs.Symbols.{IsSymbol}
 use Rattle.name_table.specs.Names.{has_name}
 use Rattle.module_head.specs.Heads.{HeadTree, is_word, symbol_of, says, head_of}
 use Rattle.scheme_data.proofs.DistinctNames.{added}
@@ -23,14 +23,14 @@ use Rattle.resolver.proofs.FormedExpressions.{body_formed}
 -- Definitions -------------------------------------------------------------------------------
 
 pub record IsDefinition (d : Definition) : Type 0 where
-  pub name : IsName d.name
+  pub name : IsSymbol d.name
   pub body : AreProper d.body
 
 abbrev pub AreDefinitions : List Definition → Type 0
 AreDefinitions [] = Unit {0}
 AreDefinitions (d ∷ ds) = IsDefinition d × AreDefinitions ds
 
-named_formed : (f : Option (List ℕ)) (o : Option (List (List ℕ))) (ds : Plains) → Holds IsName f → AreProper ds → Holds IsDefinition (named f o ds)
+named_formed : (f : Option (List ℕ)) (o : Option (List (List ℕ))) (ds : Plains) → Holds IsSymbol f → AreProper ds → Holds IsDefinition (named f o ds)
 named_formed None o ds h k = tt
 named_formed (Some f) None ds h k = tt
 named_formed (Some f) (Some xs) ds h k =
@@ -103,7 +103,7 @@ evaluated_formed (Evaluates d ∷ ts) h = (h.0, evaluated_formed ts h.1)
 
 -- Functions ---------------------------------------------------------------------------------
 
-defined_formed : (m : ModuleTree) (first : ℕ) (d : Definition) (t : Option Tree) → IsName d.name → Holds (IsBody m (variables first d.params)) t
+defined_formed : (m : ModuleTree) (first : ℕ) (d : Definition) (t : Option Tree) → IsSymbol d.name → Holds (IsBody m (variables first d.params)) t
     → Holds (IsFunction m) (defined first d t)
 defined_formed m first d None h k = tt
 defined_formed m first d (Some t) h k = record { name = h; body = k }

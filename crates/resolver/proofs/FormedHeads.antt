@@ -3,14 +3,14 @@ use Rattle.std.proofs.Common.{◌≡◌, ℕ, Bool, true, false, not, if◌then�
 use Rattle.std.proofs.lemmas.Bool.{not-true, and_parts}
 use Rattle.scheme_data.specs.Names.{are_distinct}
 use Rattle.scheme_data.specs.Data.{Plain, Number, Character, Truth, Unspecified, String, Symbol, Listed, Dotted, Vector, Plains, none, more, IsProper, AreProper}
-use Rattle.scheme_data.specs.Symbols.{IsName}
+use Rattle.scheme_data.specs.Symbols.{IsSymbol}
 use Rattle.module_head.specs.Heads.{is_word, symbol_of, says, has_type, ImportTree, ExportTree, HeadTree, untyped, name_of, onto, names_of, with_name, item_of, some_item, import_item, import_items, prototype, export_item, export_items, main_name, first_main, with_main, with_imports, with_exports, with_clause, then_clause, clauses, imports_itself, exported_names, is_right, righted, headed, head_of}
 use Rattle.core_tree.specs.WellFormed.{AreNames, has_some}
 use Rattle.resolver.proofs.FormedParts.{Holds, where_true}
 
 -- at least one name of a module
 pub record IsItem (i : ImportTree) : Type 0 where
-  pub module_name : IsName i.module_name
+  pub module_name : IsSymbol i.module_name
   pub names : AreNames i.names
   pub some : has_some i.names ≡ true
 
@@ -20,10 +20,10 @@ AreItems (i ∷ is) = IsItem i × AreItems is
 
 abbrev pub AreExports : List ExportTree → Type 0
 AreExports [] = Unit {0}
-AreExports (e ∷ es) = IsName e.name × AreExports es
+AreExports (e ∷ es) = IsSymbol e.name × AreExports es
 
 pub record IsHead (h : HeadTree) : Type 0 where
-  pub name : IsName h.name
+  pub name : IsSymbol h.name
   pub items : AreItems h.imports
   pub exports : AreExports h.exports
 
@@ -35,7 +35,7 @@ pub record IsRight (h : HeadTree) : Type 0 where
 
 -- Names -------------------------------------------------------------------------------------
 
-pub symbol_named : (d : Plain) → IsProper d → Holds IsName (symbol_of d)
+pub symbol_named : (d : Plain) → IsProper d → Holds IsSymbol (symbol_of d)
 symbol_named (Symbol name mark) h = h
 symbol_named (Number n) h = tt
 symbol_named (Character b) h = tt
@@ -46,18 +46,18 @@ symbol_named (Listed ds) h = tt
 symbol_named (Dotted es tail) h = tt
 symbol_named (Vector es) h = tt
 
-untyped_named : (o : Option (List ℕ)) → Holds IsName o → Holds IsName (untyped o)
+untyped_named : (o : Option (List ℕ)) → Holds IsSymbol o → Holds IsSymbol (untyped o)
 untyped_named None h = tt
 untyped_named (Some name) h = go (has_type name)
   where
-    go : (b : Bool) → Holds IsName (if b then None else Some name)
+    go : (b : Bool) → Holds IsSymbol (if b then None else Some name)
     go true = tt
     go false = h
 
-name_named : (d : Plain) → IsProper d → Holds IsName (name_of d)
+name_named : (d : Plain) → IsProper d → Holds IsSymbol (name_of d)
 name_named d h = untyped_named (symbol_of d) (symbol_named d h)
 
-onto_named : (o : Option (List ℕ)) (xs : Option (List (List ℕ))) → Holds IsName o → Holds AreNames xs → Holds AreNames (onto o xs)
+onto_named : (o : Option (List ℕ)) (xs : Option (List (List ℕ))) → Holds IsSymbol o → Holds AreNames xs → Holds AreNames (onto o xs)
 onto_named None xs h k = tt
 onto_named (Some x) None h k = tt
 onto_named (Some x) (Some xs) h k = (h, k)
@@ -68,7 +68,7 @@ names_named (more d ds) h = onto_named (name_of d) (names_of ds) (name_named d h
 
 -- Imports -----------------------------------------------------------------------------------
 
-one_name_more : (x : List ℕ) (o : Option ImportTree) → IsName x → Holds IsItem o → Holds IsItem (with_name x o)
+one_name_more : (x : List ℕ) (o : Option ImportTree) → IsSymbol x → Holds IsItem o → Holds IsItem (with_name x o)
 one_name_more x None h k = tt
 one_name_more x (Some i) h k = record { module_name = k.module_name; names = (h, k.names); some = refl }
 
@@ -105,7 +105,7 @@ imports_formed (more d ds) h = onto_items (import_item d) (import_items ds) (imp
 -- Exports -----------------------------------------------------------------------------------
 
 abbrev IsExport : ExportTree → Type 0
-IsExport e = IsName e.name
+IsExport e = IsSymbol e.name
 
 prototype_formed : (o : Option (List (List ℕ))) → Holds AreNames o → Holds IsExport (prototype o)
 prototype_formed None h = tt
@@ -185,7 +185,7 @@ then_formed (Listed none) o h p = tt
 then_formed (Listed (more word ds)) None h p = tt
 then_formed (Listed (more word ds)) (Some k) h p = clause_formed (symbol_of word) ds k h.1 p
 
-clauses_formed : (name : List ℕ) (ds : Plains) → IsName name → AreProper ds → Holds IsHead (clauses name ds)
+clauses_formed : (name : List ℕ) (ds : Plains) → IsSymbol name → AreProper ds → Holds IsHead (clauses name ds)
 clauses_formed name none n h = record { name = n; items = tt; exports = tt }
 clauses_formed name (more d ds) n h = then_formed d (clauses name ds) h.0 (clauses_formed name ds n h.1)
 
@@ -201,7 +201,7 @@ righted_formed (Some h) p = go (is_right h) refl
         record { head = p; foreign = not-true (imports_itself h) parts.0; distinct = parts.1 }
     go false e = tt
 
-headed_formed : (o : Option (List ℕ)) (ds : Plains) → Holds IsName o → AreProper ds → Holds IsRight (headed o ds)
+headed_formed : (o : Option (List ℕ)) (ds : Plains) → Holds IsSymbol o → AreProper ds → Holds IsRight (headed o ds)
 headed_formed None ds n h = tt
 headed_formed (Some name) ds n h = righted_formed (clauses name ds) (clauses_formed name ds n h)
 

@@ -4,7 +4,7 @@ use Rattle.std.specs.List.{list_all}
 use Rattle.std.proofs.lemmas.Bool.{and_parts, and_from}
 use Rattle.std.proofs.lemmas.List.{length-replicate}
 use Rattle.scheme_data.specs.Names.{are_distinct}
-use Rattle.scheme_data.specs.Symbols.{IsName}
+use Rattle.scheme_data.specs.Symbols.{IsSymbol}
 use Rattle.built_table.specs.declared.primitives.Ty.TheVariants.{Obj}
 use Rattle.name_table.specs.Names.{has_name}
 use Rattle.iface_text.specs.declared.interface.Row.{Row}
@@ -25,7 +25,7 @@ use Rattle.resolver.proofs.FormedDrafts.{AreOf, take_as_many}
 -- an untyped row of this name
 pub record IsRowOf (name : List ℕ) (r : Row) : Type 0 where
   pub same : r.name ≡ name
-  pub is_name : IsName r.name
+  pub is_name : IsSymbol r.name
   pub untyped : IsUntyped r.kind
 
 row_found : (names : List (List ℕ)) (rs : List Row) (name : List ℕ) → AreRows names rs → Holds (IsRowOf name) (find (λ r. is_word r.name name) rs)

@@ -5,7 +5,7 @@ use Rattle.std.proofs.lemmas.List.{append-nil}
 use Rattle.std.proofs.lemmas.List.Folds.{list_any-append}
 use Rattle.std.specs.List.{list_any, list_all}
 use Rattle.scheme_data.specs.Names.{are_distinct, is_same}
-use Rattle.scheme_data.specs.Symbols.{IsName}
+use Rattle.scheme_data.specs.Symbols.{IsSymbol}
 use Rattle.name_table.specs.Names.{has_name}
 use Rattle.iface_text.specs.declared.interface.Row.{Row}
 use Rattle.iface_text.specs.Format.{IfaceTree, IsUntyped}
@@ -42,7 +42,7 @@ taken_later i is m name e = or_right (takes m name (import_item i)) (list_any (t
 
 -- an item that has the name
 record Offers (is : List ImportTree) (name : List ℕ) (i : ImportTree) : Type 0 where
-  pub module_name : IsName i.module_name
+  pub module_name : IsSymbol i.module_name
   pub taken : IsTaken is i.module_name name
 
 offers_later : (i : ImportTree) (is : List ImportTree) (name : List ℕ) (o : Option ImportTree) → Holds (Offers is name) o → Holds (Offers (i ∷ is) name) o
@@ -62,8 +62,8 @@ offer_found (i ∷ is) name h = go (has_name i.names name) refl (offer_found is 
 
 -- a row of a name that one of these items takes
 pub record IsGiven (is : List ImportTree) (u : Use) : Type 0 where
-  pub module_name : IsName (module_of u)
-  pub name : IsName (row_of u).name
+  pub module_name : IsSymbol (module_of u)
+  pub name : IsSymbol (row_of u).name
   pub untyped : IsUntyped (row_of u).kind
   pub taken : IsTaken is (module_of u) (row_of u).name
 
@@ -71,7 +71,7 @@ abbrev pub AreGiven : List ImportTree → List Use → Type 0
 AreGiven is [] = Unit {0}
 AreGiven is (u ∷ us) = IsGiven is u × AreGiven is us
 
-given : (is : List ImportTree) (u : Use) (name : List ℕ) → IsName (module_of u) → IsTaken is (module_of u) name → IsRowOf name (row_of u) → IsGiven is u
+given : (is : List ImportTree) (u : Use) (name : List ℕ) → IsSymbol (module_of u) → IsTaken is (module_of u) name → IsRowOf name (row_of u) → IsGiven is u
 given is u name n t r = record {
   module_name = n;
   name = r.is_name;
@@ -99,11 +99,11 @@ abbrev AreNeeds : List ImportTree → List Use → Type 0
 AreNeeds is [] = Unit {0}
 AreNeeds is (u ∷ us) = IsNeed is u × AreNeeds is us
 
-from_formed : (is : List ImportTree) (m name : List ℕ) (o : Option Row) → IsName m → IsTaken is m name → Holds (IsRowOf name) o → Holds (IsCall is name) (from m o)
+from_formed : (is : List ImportTree) (m name : List ℕ) (o : Option Row) → IsSymbol m → IsTaken is m name → Holds (IsRowOf name) o → Holds (IsCall is name) (from m o)
 from_formed is m name None n t h = tt
 from_formed is m name (Some r) n t h = record { called = refl; same = h.same; given = given is (From m r) name n t h }
 
-need_formed : (is : List ImportTree) (m name : List ℕ) (o : Option Row) → IsName m → IsTaken is m name → Holds (IsRowOf name) o → Holds (IsNeed is) (need m o)
+need_formed : (is : List ImportTree) (m name : List ℕ) (o : Option Row) → IsSymbol m → IsTaken is m name → Holds (IsRowOf name) o → Holds (IsNeed is) (need m o)
 need_formed is m name None n t h = tt
 need_formed is m name (Some r) n t h = record { needed = refl; given = given is (Need m r) name n t h }
 
@@ -140,7 +140,7 @@ module _ (ifaces : List IfaceTree) (spelled : AreSpelled ifaces) where
   calls_formed is [] h = tt
   calls_formed is (x ∷ xs) h = onto_calls is x xs (offered ifaces is x) (calls ifaces is xs) (offered_formed is x h) (calls_formed is xs h)
 
-  item_needs_formed : (is : List ImportTree) (m : List ℕ) (xs : List (List ℕ)) → IsName m → ((x : List ℕ) → has_name xs x ≡ true → IsTaken is m x)
+  item_needs_formed : (is : List ImportTree) (m : List ℕ) (xs : List (List ℕ)) → IsSymbol m → ((x : List ℕ) → has_name xs x ≡ true → IsTaken is m x)
       → Holds (AreNeeds is) (item_needs ifaces m xs)
   item_needs_formed is m [] n t = tt
   item_needs_formed is m (x ∷ xs) n t =

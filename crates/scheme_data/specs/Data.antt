@@ -2,7 +2,7 @@
 use Rattle.std.specs.Prelude.{ℕ, ◌+◌, max, ℤ, Bool, IsTrue, nat_lt, List, [], ◌∷◌}
 use Rattle.std.specs.List.{list_all}
 use Rattle.scheme_data.specs.Fixnum.{IsFixnum}
-use Rattle.scheme_data.specs.Symbols.{IsName}
+use Rattle.scheme_data.specs.Symbols.{IsSymbol}
 use Rattle.scheme_data.specs.declared.datum.Place.{Place}
 use Rattle.scheme_data.specs.declared.datum.Datum.{Datum, fold-Datum, out-Datum}
 use Rattle.scheme_data.specs.declared.datum.Datum.TheOpen.{Datum-F}
@@ -103,7 +103,7 @@ abbrev mutual
   IsProper (Truth t) = Unit {0}
   IsProper Unspecified = Unit {0}
   IsProper (String text) = IsTrue (list_all is_byte text)
-  IsProper (Symbol name mark) = IsName name
+  IsProper (Symbol name mark) = IsSymbol name
   IsProper (Listed ds) = AreProper ds
   IsProper (Dotted ds tail) = AreSome ds × AreProper ds × IsTail tail × IsProper tail
   IsProper (Vector ds) = AreProper ds

@@ -6,7 +6,7 @@ use Rattle.std.proofs.lemmas.List.Folds.{list_all-append}
 use Rattle.std.specs.List.{prefix_len, take_while, list_all}
 use Rattle.scheme_data.specs.Data.{Plain, Plains, Number, Character, Truth, Unspecified, String, Symbol, Listed, Dotted, Vector, none, more, plain, plain_all, is_byte, AreSome, IsProper, AreProper}
 use Rattle.scheme_data.specs.Fixnum.{is_fixnum}
-use Rattle.scheme_data.specs.Symbols.{IsName, is_symbol_byte}
+use Rattle.scheme_data.specs.Symbols.{IsSymbol, is_symbol_byte}
 use Rattle.scheme_data.specs.declared.datum.Place.{Place}
 use Rattle.scheme_data.specs.declared.datum.Datum.{Datum}
 use Rattle.scheme_data.specs.declared.datum.Datum.TheVariants as datum
@@ -249,7 +249,7 @@ proper_joined ds (Listed es) s h k = proper_append ds es h k
 proper_joined ds (Dotted es last) s h k = (some_append ds es s, proper_append ds es h k.1, k.2, k.3)
 proper_joined ds (Vector es) s h k = (s, h, tt, k)
 
-quote_is_name : IsName (codes "quote")
+quote_is_name : IsSymbol (codes "quote")
 quote_is_name = record { some = omega arith; short = omega arith; bytes = refl }
 
 proper_quoted : (at : Place) (d : Datum) → IsProper (plain d) → IsProper (plain (quoted at d))

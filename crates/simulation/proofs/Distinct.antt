@@ -5,7 +5,7 @@ use Rattle.std.specs.List.{list_any, list_all, flat_map}
 use Rattle.std.proofs.lemmas.Bool.{and_from, and_parts}
 use Rattle.std.proofs.lemmas.List.Folds.{list_any-append}
 use Rattle.scheme_data.specs.Names.{are_distinct, is_same}
-use Rattle.scheme_data.specs.Symbols.{IsName}
+use Rattle.scheme_data.specs.Symbols.{IsSymbol}
 use Rattle.core_tree.specs.Tree.{FunctionTree, ModuleTree}
 use Rattle.core_tree.specs.WellFormed.{AreFunctions, IsWellFormed}
 use Rattle.meaning.specs.Program.{AreWellFormed, IsProgram}
@@ -67,7 +67,7 @@ unit_named m items formed tr = functions_named m m.functions items formed.functi
 -- Two modules -------------------------------------------------------------------------------
 
 -- a name of one is none of the other's
-away : (m k : Name) → IsName m → IsName k → is_same m k ≡ false → (n : Name) → NameOf m n → (ns : List Name) → NamesOf k ns → list_any (is_same n) ns ≡ false
+away : (m k : Name) → IsSymbol m → IsSymbol k → is_same m k ≡ false → (n : Name) → NameOf m n → (ns : List Name) → NamesOf k ns → list_any (is_same n) ns ≡ false
 away m k is_m is_k other n named [] of = refl
 away m k is_m is_k other n named (x ∷ ns) of = ap (λ b. b || list_any (is_same n) ns) (go (is_same n x) refl) ∙ away m k is_m is_k other n named ns of.1
   where
@@ -79,7 +79,7 @@ away m k is_m is_k other n named (x ∷ ns) of = ap (λ b. b || list_any (is_sam
         absurd (let bad : false ≡ true = sym other ∙ same_test m k one in cc)
 
 -- and none of those of several modules, none of which is this one
-away_from_all : (m n : Name) → IsName m → NameOf m n → (ms : List ModuleTree) (parts : List Part) → AreWellFormed ms → AreTranslated ms parts → list_any (is_same m) (map (λ k. k.name) ms) ≡ false → list_any (is_same n) (defined_names (items_of parts)) ≡ false
+away_from_all : (m n : Name) → IsSymbol m → NameOf m n → (ms : List ModuleTree) (parts : List Part) → AreWellFormed ms → AreTranslated ms parts → list_any (is_same m) (map (λ k. k.name) ms) ≡ false → list_any (is_same n) (defined_names (items_of parts)) ≡ false
 away_from_all m n is named [] [] formed tr other = refl
 away_from_all m n is named [] (p ∷ ps) formed tr other = absurd tr
 away_from_all m n is named (k ∷ ms) [] formed tr other = absurd tr

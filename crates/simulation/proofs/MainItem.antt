@@ -6,7 +6,7 @@ use Rattle.std.proofs.lemmas.Bool.{and_from, and_parts}
 use Rattle.std.proofs.lemmas.List.{append-nil}
 use Rattle.std.proofs.lemmas.List.Folds.{list_any-append, list_all-append}
 use Rattle.scheme_data.specs.Names.{are_distinct, is_same}
-use Rattle.scheme_data.specs.Symbols.{IsName}
+use Rattle.scheme_data.specs.Symbols.{IsSymbol}
 use Rattle.core_tree.specs.Tree.{ModuleTree}
 use Rattle.core_tree.specs.WellFormed.{AreNames}
 use Rattle.meaning.specs.Program.{AreWellFormed}
@@ -30,7 +30,7 @@ use Rattle.simulation.proofs.Distinct.{items_of, or_parts, distinct_both, NamesO
 
 -- Names -------------------------------------------------------------------------------------
 
-named_calls : (of : Name → Name) → ((m : Name) → IsName m → IsTrue (is_function_name (of m))) → (ms : List Name) → AreNames ms → (rest : Code) → NamedCode rest → NamedCode (calls_alone (map of ms) rest)
+named_calls : (of : Name → Name) → ((m : Name) → IsSymbol m → IsTrue (is_function_name (of m))) → (ms : List Name) → AreNames ms → (rest : Code) → NamedCode rest → NamedCode (calls_alone (map of ms) rest)
 named_calls of each [] are rest named = named
 named_calls of each (m ∷ ms) are rest named = ((each m are.0, tt), named_calls of each ms are.1 rest named)
 
@@ -92,7 +92,7 @@ main_fits names sigs ms f made initialized called =
 abbrev pub called_in_main : List Name → List Name
 called_in_main ms = map maker_name ms ++ map initializer_name ms
 
-calls_once : (of : Name → Name) → ((m : Name) → IsName m → is_called_once (of m) ≡ true) → (ms : List Name) → AreNames ms → (rest : Code) → once_in (calls_alone (map of ms) rest) ≡ map of ms ++ once_in rest
+calls_once : (of : Name → Name) → ((m : Name) → IsSymbol m → is_called_once (of m) ≡ true) → (ms : List Name) → AreNames ms → (rest : Code) → once_in (calls_alone (map of ms) rest) ≡ map of ms ++ once_in rest
 calls_once of each [] are rest = refl
 calls_once of each (m ∷ ms) are rest =
     ap (λ b. (if b then of m ∷ [] else []) ++ once_in (calls_alone (map of ms) rest)) (each m are.0) ∙ ap (λ ns. of m ∷ ns) (calls_once of each ms are.1 rest)
@@ -123,7 +123,7 @@ distinct_of of parts (m ∷ ms) distinct =
     (ap not (others_of of parts m ms (not_parts (list_any (is_same m) ms) apart.0)))
     (distinct_of of parts ms apart.1)
 
-no_initializer : (m : Name) → IsName m → (ks : List Name) → list_any (is_same (maker_name m)) (map initializer_name ks) ≡ false
+no_initializer : (m : Name) → IsSymbol m → (ks : List Name) → list_any (is_same (maker_name m)) (map initializer_name ks) ≡ false
 no_initializer m is [] = refl
 no_initializer m is (k ∷ ks) = ap (λ b. b || list_any (is_same (maker_name m)) (map initializer_name ks)) (other_name (maker_name m) (initializer_name k) (other_kinds m k is)) ∙ no_initializer m is ks
 

@@ -7,7 +7,7 @@ use Rattle.std.proofs.lemmas.List.Elements.{All-contains}
 use Rattle.std.proofs.lemmas.List.Folds.{list_all-append, list_all-map}
 use Rattle.std.proofs.lemmas.List.Sums.{AllPass-from_list_all}
 use Rattle.scheme_data.specs.Names.{is_same}
-use Rattle.scheme_data.specs.Symbols.{IsName}
+use Rattle.scheme_data.specs.Symbols.{IsSymbol}
 use Rattle.core_tree.specs.declared.tree.VarId.{VarId}
 use Rattle.core_tree.specs.Tree.{FunctionTree, ModuleTree, Callee, own_callee, used_callees}
 use Rattle.core_tree.specs.WellFormed.{IsFunction, AreFunctions}
@@ -47,11 +47,11 @@ function_formed m (x ∷ fs) f (inl same) are = subst (λ y. IsFunction m y) sam
 function_formed m (x ∷ fs) f (inr h) are = function_formed m fs f h are.1
 
 -- the module and the function of a callee have names
-pub callee_named : (program : List ModuleTree) → AreWellFormed program → (c : Callee) (q : Procedure) → procedure_of program (Some c) ≡ Some q → IsName c.module_name × IsName c.name
+pub callee_named : (program : List ModuleTree) → AreWellFormed program → (c : Callee) (q : Procedure) → procedure_of program (Some c) ≡ Some q → IsSymbol c.module_name × IsSymbol c.name
 callee_named program formed c q at =
     let h = placed program c q at in
     let home = formed_at program q.home h.home formed in
-    (subst IsName h.home_named home.name, subst IsName h.function_named (function_formed q.home q.home.functions q.function h.function home.functions).name)
+    (subst IsSymbol h.home_named home.name, subst IsSymbol h.function_named (function_formed q.home q.home.functions q.function h.function home.functions).name)
 
 -- what a unit may call is there
 callees_there : (program : List ModuleTree) → IsProgram program → (m : ModuleTree) → Has program m → list_all (is_there program) (callees m) ≡ true
@@ -167,7 +167,7 @@ module _ (program : List ModuleTree) (is_program : IsProgram program) (m : Modul
       let h = there program c (own_there program is_program m member f here) in
       inl (record { callee = c; procedure = h.procedure; at = h.at; named = tr.name; gives = tr.result; takes = tr.params ∙ objects_replicated f.params ∙ ap (λ n. replicate n Obj) (sym h.count) })
 
-  is_name : IsName m.name
+  is_name : IsSymbol m.name
   is_name = (formed_at program m member is_program.formed).name
 
   maker_right : (g : Fun) → IsEmpty (maker_name m.name) g → Right program (signature_of (defined g))

@@ -1,7 +1,7 @@
 -- What a well-formed module is compiled to has a text.
 use Rattle.std.proofs.Common.{◌≡◌, ℕ, List, [], ◌∷◌, nat_eq, Bool, true, false, cond, IsTrue, Option, Some, None, refl, sym, subst}
 use Rattle.std.specs.Cmp.Lexicographic.{pointwise, same_text}
-use Rattle.scheme_data.specs.Symbols.{IsName}
+use Rattle.scheme_data.specs.Symbols.{IsSymbol}
 use Rattle.core_tree.specs.declared.tree.Use.{Use}
 use Rattle.core_tree.specs.Tree.{FunctionTree, ModuleTree, function_named}
 use Rattle.core_tree.specs.WellFormed.{AreFunctions, AreUses, IsMain, IsWellFormed, takes_as_many}
@@ -13,12 +13,12 @@ use_rows m [] are = tt
 use_rows m (u ∷ us) are = (record { module_name = are.0.module_name; name = are.0.name; untyped = are.0.untyped }, use_rows m us are.1)
 
 -- a function that is found has the name
-name_found : (m : ModuleTree) (fs : List FunctionTree) (name : List ℕ) (params : ℕ) → AreFunctions m fs → IsTrue (takes_as_many params (function_named fs name)) → IsName name
+name_found : (m : ModuleTree) (fs : List FunctionTree) (name : List ℕ) (params : ℕ) → AreFunctions m fs → IsTrue (takes_as_many params (function_named fs name)) → IsSymbol name
 name_found m [] name params are found = absurd (cc)
 name_found m (f ∷ fs) name params are found = go (pointwise nat_eq f.name name) refl found (λ h. name_found m fs name params are.1 h)
   where
-    go : (b : Bool) → pointwise nat_eq f.name name ≡ b → IsTrue (takes_as_many params (cond b (Some f) (function_named fs name))) → (IsTrue (takes_as_many params (function_named fs name)) → IsName name) → IsName name
-    go true same h later = subst IsName (same_text f.name name (sym same)) are.0.name
+    go : (b : Bool) → pointwise nat_eq f.name name ≡ b → IsTrue (takes_as_many params (cond b (Some f) (function_named fs name))) → (IsTrue (takes_as_many params (function_named fs name)) → IsSymbol name) → IsSymbol name
+    go true same h later = subst IsSymbol (same_text f.name name (sym same)) are.0.name
     go false other h later = later h
 
 main_name : (m : ModuleTree) (main : Option (List ℕ)) → AreFunctions m m.functions → IsMain m main → IsMainName main
