@@ -1,2 +1,3 @@
 pub mod DistinctNames
 pub mod NumberTexts
+pub mod SymbolTests
