@@ -13,6 +13,7 @@ mod op_names;
 mod order;
 mod pieces;
 mod tree;
+mod unmangling;
 mod walk;
 
 pub use function::{CFun, CItem, CProgram, CUnit};
@@ -29,6 +30,3 @@ pub use op_names::op_by_name;
 pub use order::{lay_out, pieces_in};
 pub use pieces::{Piece, PieceRef};
 pub use tree::{CArg, CAtom, CBlock, CCall, CExpr, CStmt, CTy, CVar, Callee, Token};
-
-#[cfg(test)]
-mod tests;

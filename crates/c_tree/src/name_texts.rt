@@ -6,7 +6,7 @@ use crate::name_tests::tells_alphanumeric;
 use scheme_data::{OutOfMemory, Text, push_number};
 use std::alloc::Global;
 
-fn hex_byte(n: u8) -> u8
+pub fn hex_byte(n: u8) -> u8
     requires { n < 16 }
     ensures { result ≡ hex_digit n }
 {

@@ -1,15 +1,31 @@
 // Operations by their names.
-ghost use Rattle.std.specs.Prelude.{◌≡◌, nat_eq};
+ghost use Rattle.std.specs.Prelude.{◌≡◌, map, find, nat_eq};
 ghost use Rattle.std.specs.Cmp.Lexicographic.{pointwise};
-ghost use Rattle.c_tree.specs.Operations.{op_named};
+ghost use Rattle.c_tree.specs.Operations.{is_op, primitives, op_named};
 
 use crate::op::Op;
-use built_table::Primitive;
+use crate::unmangling::unmangled;
+use built_table::prim_by_name;
 
 fn is_named(word: &[u8], name: &[u8]) -> bool
     ensures { result ≡ pointwise nat_eq word.now name.now }
 {
     word == name
+}
+
+fn primitive_by_name(word: &[u8]) -> Option<Op>
+    ensures { result ≡ find (is_op word.now) (map Op.Primitive primitives) }
+{
+    let Some(mangled) = word.strip_prefix(b"bgl_p_".as_slice()) else {
+        return None;
+    };
+    let Some(name) = unmangled(mangled) else {
+        return None;
+    };
+    let Some(p) = prim_by_name(name.as_slice()) else {
+        return None;
+    };
+    Some(Op::Primitive(p))
 }
 
 /// The operation of a name; none exactly for other names.
@@ -38,17 +54,5 @@ pub fn op_by_name(name: &[u8]) -> Option<Op>
     if is_named(name, b"bgl_status") {
         return Some(Op::Status);
     }
-    if is_named(name, b"bgl_p__2b") {
-        return Some(Op::Primitive(Primitive::Add));
-    }
-    if is_named(name, b"bgl_p__3c") {
-        return Some(Op::Primitive(Primitive::Less));
-    }
-    if is_named(name, b"bgl_p_display") {
-        return Some(Op::Primitive(Primitive::Display));
-    }
-    if is_named(name, b"bgl_p_newline") {
-        return Some(Op::Primitive(Primitive::Newline));
-    }
-    None
+    primitive_by_name(name)
 }
