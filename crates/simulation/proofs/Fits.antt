@@ -21,7 +21,7 @@ use Rattle.plan_rules.specs.declared.rep.Rep.{Rep}
 use Rattle.plan_rules.specs.declared.rep.Rep.TheVariants.{Obj, Long, Bool as Truth_rep}
 use Rattle.plan_rules.specs.Representation.{rep_of, c_type_of, step}
 use Rattle.plan_rules.specs.Translation.{Name, Fits, Made, Refused, AllFit}
-use Rattle.simulation.proofs.Frames.{names, Kept, kept_same, kept_on, kept_put, put_here, Target, Within, nothing, also, within_more}
+use Rattle.simulation.proofs.Frames.{names, Kept, kept_same, kept_on, kept_put, put_here, Writable, Within, nothing, also, within_more}
 use Rattle.simulation.proofs.Worlds.{World, WordOf, IsRep, rep_moves, rep_grows, Grows, grows_same}
 use Rattle.simulation.proofs.Boxes.{Boxes, long_boxes, truth_boxes}
 
@@ -57,10 +57,10 @@ module _ (vars : List CVar) (p : List Fun) (lower : Lower) (world : World) (t : 
   made_so : (o : Op) (live : List Name) (f : Frame) (type : Ty) (v : Value) (code : Code) (temporary made : Name) (rest : Code) (cell new : Cell) → Made vars o live temporary (c_type_of (rep_of type)) code made rest → fits type v ≡ true → f (position_of temporary (names vars)) ≡ cell → operate o (ACell cell ∷ []) t ≡ c.Has new t → IsRep world (rep_of type) v new → OneDone live f type v code made rest
   made_so o live f type v code temporary made rest cell new h ok is does here =
       let at = position_of made (names vars) in
-      let target : Target vars live made = record { fresh = h.fresh; type = c_type_of (rep_of type); is_local = h.is_local } in
+      let writable : Writable vars live made = record { fresh = h.fresh; type = c_type_of (rep_of type); is_local = h.is_local } in
       fine (put at new f) ok
       (ap (λ x. runs x f) h.is ∙ ap (λ a. with a f (λ k s1. exec p lower (names vars) rest (put at k f) s1)) (ap (λ k. operate o (ACell k ∷ []) t) is ∙ does))
-      (kept_put vars live made new f target)
+      (kept_put vars live made new f writable)
       (rep_moves world (rep_of type) v new (put at new f at) (put_here at new f) here)
 
   refused_so : (o : Op) (live : List Name) (f : Frame) (type : Ty) (v : Value) (code : Code) (temporary made : Name) (rest : Code) (cell : Cell) → Made vars o live temporary (c_type_of (rep_of type)) code made rest → fits type v ≡ false → f (position_of temporary (names vars)) ≡ cell → operate o (ACell cell ∷ []) t ≡ c.Stops 1 (type_name type) t → OneDone live f type v code made rest
