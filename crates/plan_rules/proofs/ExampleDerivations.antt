@@ -19,7 +19,7 @@ use Rattle.plan_rules.specs.declared.rep.Rep.{Rep}
 use Rattle.plan_rules.specs.declared.rep.Rep.TheVariants as rep
 use Rattle.plan_rules.specs.Representation.{rep_of, c_type_of, step, condition, operation, raise_count, raise_type, local}
 use Rattle.plan_rules.specs.Translation.{Name, Fresh, Target, into, deliver, Statements, IsLocal, Boxed, Made, Refused, Fits, Applied, Argument, Then, Branches, Miscounted}
-use Rattle.simulation.proofs.Names.{same_test}
+use Rattle.std.specs.Cmp.Lexicographic.{bytes_decides}
 
 -- Which locals are free ---------------------------------------------------------------------
 
@@ -29,7 +29,7 @@ absent x (y ∷ ys) = if is_same x y then false else absent x ys
 
 fresh : (x : Name) (xs : List Name) → absent x xs ≡ true → Fresh x xs
 fresh x [] e i = i
-fresh x (y ∷ ys) e (inl q) = let bad : false ≡ true = sym (ap (λ b. if b then false else absent x ys) (same_test x y q)) ∙ e in absurd (cc)
+fresh x (y ∷ ys) e (inl q) = let bad : false ≡ true = sym (ap (λ b. if b then false else absent x ys) ((bytes_decides x y).1 q)) ∙ e in absurd (cc)
 fresh x (y ∷ ys) e (inr i) = fresh x ys (go (is_same x y) e) i
   where
     go : (b : Bool) → (if b then false else absent x ys) ≡ true → absent x ys ≡ true
