@@ -1,5 +1,5 @@
 -- How lists of uses grow.
-use Rattle.std.proofs.Common.{◌≡◌, ℕ, ◌+◌, ◌<◌, Bool, true, false, not, ◌&&◌, ◌||◌, cond, List, [], ◌∷◌, ◌++◌, length, get_or, map, find, drop, take, slice_get, Option, None, Some, nat_eq, refl, sym, ap, ◌∙◌, true≢false, if◌then◌else◌, append_assoc, drop-cons, add-one}
+use Rattle.std.proofs.Common.{◌≡◌, ℕ, ◌+◌, ◌<◌, ◌≤◌, Bool, true, false, not, ◌&&◌, ◌||◌, cond, List, [], ◌∷◌, ◌++◌, length, get_or, map, find, drop, take, slice_get, Option, None, Some, nat_eq, refl, sym, ap, ◌∙◌, true≢false, if◌then◌else◌, append_assoc, drop-cons, add-one}
 use Rattle.std.specs.Borrow.{Bor}
 use Rattle.std.specs.Cmp.Lexicographic.{pointwise, slice_cmp, nat_list_eq_equiv, texts_ties}
 use Rattle.std.specs.Cmp.{both_tied}
@@ -7,7 +7,7 @@ use Rattle.std.specs.Ordering.{nat_cmp, ordering_then, is_eq}
 use Rattle.std.specs.List.{list_any}
 use Rattle.std.specs.Map.{lookup}
 use Rattle.std.specs.Option.{option_map, option_and_then, option_copied}
-use Rattle.std.proofs.lemmas.List.{take_more, map-append}
+use Rattle.std.proofs.lemmas.List.{take_more, take_all, map-append}
 use Rattle.std.proofs.lemmas.List.Folds.{list_any-append}
 use Rattle.std.proofs.lemmas.Option.{get_or_from_slice_get, slice_get_within}
 use Rattle.scheme_data.specs.Names.{is_same}
@@ -45,6 +45,9 @@ name_more names i x m start old new k v within is named own had puts name =
     ∙ (λ j. cond (sym (texts_ties k.now name) j) (Some (own j)) (had name j))
     ∙ choose (is_word k.now name) (has_name (take i names) name) (Some m) (module_at start name)
     ∙ ap (λ b. cond b (Some m) (module_at start name)) more
+
+pub names_all : (names items : List (List ℕ)) (i : ℕ) (m : List ℕ) (start es : List (Key × Bor (List ℕ))) → length items ≤ i → items ≡ names → TakesItem start es (record { module_name = m; names = take i items }) → TakesItem start es (record { module_name = m; names = names })
+names_all names items i m start es past same had name = had name ∙ ap (λ l. if has_name l name then Some m else module_at start name) (take_all i items past ∙ same)
 
 -- Calls -------------------------------------------------------------------------------------
 
