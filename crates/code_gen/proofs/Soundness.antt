@@ -1,11 +1,10 @@
 -- The statements of a translated body are named, and their types fit.
-use Rattle.std.proofs.Common.{◌≡◌, ℕ, zero, suc, List, [], ◌∷◌, ◌++◌, map, replicate, Bool, true, false, Option, Some, None, refl, sym, ap, ◌∙◌, subst, arith}
+use Rattle.std.proofs.Common.{rules, ◌≡◌, ℕ, zero, suc, List, [], ◌∷◌, ◌++◌, map, replicate, Bool, true, false, Option, Some, None, refl, sym, ap, ◌∙◌, subst, arith}
 use Rattle.std.specs.Prelude.{IsTrue, pos, ◌&&◌}
 use Rattle.std.proofs.lemmas.Bool.{and_from, eqb-true}
 use Rattle.built_table.specs.declared.primitives.Ty.{Ty}
 use Rattle.built_table.specs.declared.primitives.Ty.TheVariants as ty
 use Rattle.built_table.specs.declared.primitives.Primitive.{Primitive as Builtin}
-use Rattle.built_table.specs.declared.primitives.Primitive.TheVariants as builtin
 use Rattle.built_table.specs.Table.{params_of, result_of}
 use Rattle.core_tree.specs.declared.tree.Const.{Const}
 use Rattle.core_tree.specs.declared.tree.Const.TheVariants as const
@@ -26,7 +25,10 @@ use Rattle.c_tree.specs.declared.tree.CVar.{CVar}
 use Rattle.c_tree.specs.Code.{Code, done, assign, call, return, test, loop}
 use Rattle.c_tree.specs.Names.{is_local_name, is_function_name}
 use Rattle.c_tree.specs.Spelling.{NamedArguments, NamedCall, NamedExpr, NamedCode}
-use Rattle.c_meaning.specs.Checked.{Signature, signature_named, same_type, is_typed, variable_named, Wants, AType, wants_of, gives_of, arguments_fit, call_fits_signature, call_type, is_the_type, has_type, expr_fits, assigned_fits, code_fits, returns_last}
+use Rattle.c_tree.specs.declared.op.Wants.{Wants}
+use Rattle.c_tree.specs.declared.op.Wants.TheVariants.{AType}
+use Rattle.c_tree.specs.Operations.{wants_of, gives_of}
+use Rattle.c_meaning.specs.Checked.{Signature, signature_named, same_type, is_typed, variable_named, arguments_fit, call_fits_signature, call_type, is_the_type, has_type, expr_fits, assigned_fits, code_fits, returns_last}
 use Rattle.plan_rules.specs.declared.rep.Rep.{Rep}
 use Rattle.plan_rules.specs.declared.rep.Rep.TheVariants.{Obj, Long, Bool as Truth_rep}
 use Rattle.plan_rules.specs.Representation.{Slot, PlainAt, slot_of, rep_of, c_type_of, has_of, constant_expr, condition, operation, raise_count, raise_type, call_of, local, step}
@@ -303,16 +305,10 @@ module _ (w : Setting) (sigs : List Signature) (vars : List CVar) (grounds : Gro
   made_named (t ∷ ts) [] h = absurd h
 
   wants-params : (p : Builtin) → wants_of (Does p) ≡ map wanted (params_of p)
-  wants-params builtin.Add = refl
-  wants-params builtin.Less = refl
-  wants-params builtin.Display = refl
-  wants-params builtin.Newline = refl
+  wants-params p = search rules
 
   gives-result : (p : Builtin) → gives_of (Does p) ≡ c_type_of (rep_of (result_of p))
-  gives-result builtin.Add = refl
-  gives-result builtin.Less = refl
-  gives-result builtin.Display = refl
-  gives-result builtin.Newline = refl
+  gives-result p = search rules
 
   fine_made : (ts : List Ty) (made : List Name) → AreMade made ts → FineArgs (map wanted ts) (map local made)
   fine_made ts made h = record { fits = made_fit ts made h; named = made_named ts made h }

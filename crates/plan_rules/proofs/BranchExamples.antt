@@ -130,7 +130,7 @@ order_result : Translated (hello (less_of (int 1) (int 2))) (unit order_locals o
 unfolding Tr TrUnused TrAllUnused TrLast TrArguments is_sound_with function_name maker_name initializer_name is_function_name is_local_name is_label_name
 order_result = translated_so (boxed_so x3 refl (refl, two_kept x1 x2 _ refl refl refl)) (search rules) refl
 
--- Where a number is wanted of one, error 1 is raised, and a number stands in its place
+-- Where a number is wanted of one, the error of a wrong type is raised, and a number stands in its place
 abbrev refused_body : Tree
 refused_body = sum_of (int 1) (truth true)
 

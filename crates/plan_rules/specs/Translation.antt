@@ -150,7 +150,7 @@ module _ (vars : List CVar) where
     pub taken : one first
     pub else_taken : other second
 
-  -- arguments whose number is wrong are evaluated, and then error 2 is raised
+  -- arguments whose number is wrong are evaluated, and then the error of their number is raised
   pub record Miscounted (arguments : List Name → Code → Code → Type 0) (want : ℕ) (code rest : Code) : Type 0 where
     pub temporaries : List Name
     pub middle : Code

@@ -2,6 +2,8 @@
 use Rattle.std.proofs.Common.{Option, Some, None, ◌≡◌, ℕ, ◌≤◌, List, ◌∷◌, ◌++◌, length, true, refl, sym, ap, ◌∙◌, subst, inl, inr, arith}
 use Rattle.std.specs.Prelude.{nat_eq, map, if◌then◌else◌}
 use Rattle.scheme_data.specs.Decimal.{decimal_text}
+use Rattle.prim_table.specs.Errors.{number_of}
+use Rattle.prim_table.specs.declared.errors.ErrCode.TheVariants.{WrongType, ArgumentCount}
 use Rattle.built_table.specs.declared.primitives.Ty.{Ty}
 use Rattle.built_table.specs.declared.primitives.Primitive.{Primitive as Builtin}
 use Rattle.built_table.specs.Table.{params_of, result_of, type_name}
@@ -27,7 +29,7 @@ use Rattle.simulation.proofs.Primitives.{acts_alike}
 use Rattle.simulation.proofs.Evaluations.{eval}
 
 counted_so : {A : Type 0} (want have : ℕ) (s : State) (o : Outcome A) → nat_eq have want ≡ true → counted want have s o ≡ o
-counted_so want have s o e = ap (λ b. if b then o else src.Raises 2 (decimal_text want) s) e
+counted_so want have s o e = ap (λ b. if b then o else src.Raises (number_of ArgumentCount) (decimal_text want) s) e
 
 -- a base that goes on from what was reached
 abbrev pub from : List Name → Frame → World → State → Base
@@ -89,7 +91,7 @@ module _ (vars : List CVar) (p : List Fun) (lower : Lower) where
         (onwards vars (λ v s1 x. Settled to r rest d v s1 x) (λ v s1 x. Settled to r rest b v s1 x) b d (w.core vs s) (runs middle f t) _ (e ∙ ap (λ x. runs x g t) is) (λ x i. i) m (λ v s1 h. settled_on to r rest b d v s1 _ (λ x i. i) m h)
         (finished to r rest d (w.core vs s) (w.doing (map local made)) t free (w.acts world vs made g s t low_here all same)))
     tests_end b made middle last vs s world f t live low free is many sub moved same (failed type so e) =
-        let as_error : whole vs s ≡ src.Raises 1 (type_name type) s = counted_so (length ts) (length vs) s _ many ∙ so (w.core vs s) in
+        let as_error : whole vs s ≡ src.Raises (number_of WrongType) (type_name type) s = counted_so (length ts) (length vs) s _ many ∙ so (w.core vs s) in
         subst (λ o. Settles to r rest b o (runs middle f t)) (sym as_error) (record { later = world; t = t; is = e; same = same })
 
     fitted : (hs : List Rep) (b : Base) (temporaries made : List Name) (middle last : Code) (vs : List Value) (s : State) (flow : Flow) → b.state.turns ≤ limit → Open vars b.live to → AllFit vars ts hs temporaries (temporaries ++ b.live) middle made last → last ≡ finish to rest (w.doing (map local made)) → Reached vars p lower b middle (λ world f. AllRep vars world f hs vs temporaries) s flow → Settles to r rest b (whole vs s) flow

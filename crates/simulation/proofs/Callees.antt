@@ -3,6 +3,8 @@ use Rattle.std.proofs.Common.{◌≡◌, ℕ, suc, ◌≤◌, List, [], ◌∷�
 use Rattle.std.specs.Prelude.{nat_eq, map, if◌then◌else◌}
 use Rattle.std.proofs.lemmas.Bool.{eqb-true}
 use Rattle.scheme_data.specs.Decimal.{decimal_text}
+use Rattle.prim_table.specs.Errors.{number_of}
+use Rattle.prim_table.specs.declared.errors.ErrCode.TheVariants.{ArgumentCount}
 use Rattle.core_tree.specs.declared.tree.GlobalRef.{GlobalRef}
 use Rattle.core_tree.specs.Tree.{Trees, none, more, count, ModuleTree, Callee, callee_of}
 use Rattle.meaning.specs.Value.{Value, State, Outcome, bind, take_turn}
@@ -74,7 +76,7 @@ module _ (program : List ModuleTree) (m : ModuleTree) (linked : Linked program m
       let next = take_turn s (λ s1. lo q.home q.function.body (bound q.function.params vs []) s1) in
       ap (λ k. counted k (length vs) s next) (sym (objects_long ns ∙ many)) ∙ ap (λ o. counted (length (objects ns)) (length vs) s o) (sym (objects_pass ns vs s next))
 
-  -- the wrong number of arguments is error 2 on both sides
+  -- the wrong number of arguments raises the same error on both sides
   miscounted : (q : Procedure) (args : List Name → Code → Code → Type 0) (ns : Trees) (to : Option Target) (rest code : Code) (b : Base) (o : Outcome (List Value)) (flow : Flow) → nat_eq (count ns) (length q.function.params) ≡ false → (a : Miscounted vars args (length q.function.params) code rest) → Evaluated vars p lower (haves scope (objects ns) ns) a.temporaries a.middle b o flow → Settles vars p lower to Obj rest b (bind o (λ vs s. apply lo q.home q.function vs s)) flow
   miscounted q args ns to rest code b o flow wrong a evaluated =
       bind_ends vars (λ vs s x. Reached vars p lower b a.middle (λ world g. AllRep vars world g (haves scope (objects ns) ns) vs a.temporaries) s x) (λ v s x. Settled vars p lower to Obj rest b v s x) b o (λ vs s. apply lo q.home q.function vs s) flow evaluated
@@ -82,7 +84,7 @@ module _ (program : List ModuleTree) (m : ModuleTree) (linked : Linked program m
       let next = take_turn s (λ s1. lo q.home q.function.body (bound q.function.params vs []) s1) in
       let want = length q.function.params in
       let counts : nat_eq (length vs) want ≡ false = ap (λ k. nat_eq k want) (values_long scope vars h.later h.g ns h.here) ∙ wrong in
-      let raises : apply lo q.home q.function vs s ≡ src.Raises 2 (decimal_text want) s = ap (λ x. if x then next else src.Raises 2 (decimal_text want) s) counts in
+      let raises : apply lo q.home q.function vs s ≡ src.Raises (number_of ArgumentCount) (decimal_text want) s = ap (λ x. if x then next else src.Raises (number_of ArgumentCount) (decimal_text want) s) counts in
       subst (λ z. Settles vars p lower to Obj rest b z flow) (sym raises) (record { later = h.later; t = h.t; is = h.is ∙ ap (λ x. exec p lower (names vars) x h.g h.t) a.is; same = h.same }))
 
   -- what the arguments' statements do
