@@ -14,9 +14,9 @@ use Rattle.c_tree.specs.Names.{function_name, maker_name, initializer_name, is_f
 use Rattle.c_meaning.specs.Checked.{is_sound}
 use Rattle.plan_rules.specs.Representation.{raise_count, local}
 use Rattle.plan_rules.specs.Translation.{Name, Tr, TrUnused, TrAllUnused, TrLast, TrArguments, callees, c_name_of, IsDeclared, outside_of, is_sound_with, Translated}
-use Rattle.simulation.proofs.Names.{same_test}
-use Rattle.simulation.proofs.ExampleUnits.{int, f_name, go_name, x0, x1, x2, var, a_word, variable, call_first, a_local, calls_in, function, definition, empties, function_so, empties_so, declared_so}
-use Rattle.simulation.proofs.ExampleDerivations.{then_so, miscounted_so, one_kept}
+use Rattle.std.specs.Cmp.Lexicographic.{bytes_decides}
+use Rattle.plan_rules.proofs.ExampleUnits.{int, f_name, go_name, x0, x1, x2, var, a_word, variable, call_first, a_local, calls_in, function, definition, empties, function_so, empties_so, declared_so}
+use Rattle.plan_rules.proofs.ExampleDerivations.{then_so, miscounted_so, one_kept}
 
 -- Modules and units -------------------------------------------------------------------------
 
@@ -145,5 +145,5 @@ needed_is_not_declared t params d = go d.is_one.0 d.callee d.is_one.1 d.is_one.2
   where
     go : (k : ℕ) (c : Callee) → k < 1 → slice_index_or (callees needing) k c ≡ c → function_name a_name g_name ≡ c_name_of c → ⊥
     go zero c low at named =
-        let bad : false ≡ true = same_test (function_name a_name g_name) (function_name b_name go_name) (named ∙ sym (ap c_name_of at)) in absurd (cc)
+        let bad : false ≡ true = (bytes_decides (function_name a_name g_name) (function_name b_name go_name)).1 (named ∙ sym (ap c_name_of at)) in absurd (cc)
     go (suc k) c low at named = absurd (omega (arith, low))

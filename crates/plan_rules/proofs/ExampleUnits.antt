@@ -1,16 +1,12 @@
 -- Small modules and units, and what examples of translations share.
-use Rattle.std.proofs.Common.{◌≡◌, ℕ, List, [], ◌∷◌, ◌++◌, Bool, true, Some, refl, sym, ap, subst, arith}
-use Rattle.std.specs.Prelude.{codes, pos, map, replicate, slice_get, IsTrue}
+use Rattle.std.proofs.Common.{◌≡◌, ℕ, List, [], ◌∷◌, ◌++◌, Bool, true, Some, refl, sym, subst}
+use Rattle.std.specs.Prelude.{codes, pos, replicate, slice_get}
 use Rattle.std.proofs.lemmas.Option.{slice_get_within, get_or_from_slice_get}
-use Rattle.scheme_data.specs.Names.{are_distinct}
 use Rattle.built_table.specs.declared.primitives.Primitive.TheVariants.{Add, Less, Display, Newline}
 use Rattle.core_tree.specs.declared.tree.Const.TheVariants.{Int, Bool as Truth}
 use Rattle.core_tree.specs.declared.tree.GlobalRef.TheVariants.{Own}
 use Rattle.core_tree.specs.declared.tree.VarId.{VarId}
-use Rattle.core_tree.specs.Tree.{Tree, Constant, Variable, Sequence, Call, Primitive, Trees, none, more, FunctionTree, ModuleTree, Callee, own_callee, function_named}
-use Rattle.core_tree.specs.WellFormed.{takes_as_many, AreFunctions}
-use Rattle.meaning.specs.Procedures.{found_in}
-use Rattle.meaning.specs.Program.{IsProgram}
+use Rattle.core_tree.specs.Tree.{Tree, Constant, Variable, Sequence, Call, Primitive, Trees, none, more, FunctionTree, ModuleTree, Callee, own_callee}
 use Rattle.c_tree.specs.declared.op.Op.{Op}
 use Rattle.c_tree.specs.declared.op.Op.TheVariants.{BoxLong, BoxBool, Primitive as Does}
 use Rattle.c_tree.specs.declared.tree.CTy.{CTy}
@@ -28,8 +24,6 @@ use Rattle.plan_rules.specs.declared.rep.Rep.TheVariants as rep
 use Rattle.plan_rules.specs.Joined.{Part, joined}
 use Rattle.plan_rules.specs.Representation.{PlainAt, operation, call_of, local}
 use Rattle.plan_rules.specs.Translation.{Name, back, Tr, TrAllUnused, TrFunction, TrFunctions, callees, c_name_of, IsDeclared, is_sound_with, Translated}
-use Rattle.simulation.specs.Law.{KeepsMeaning, IsFaithful}
-use Rattle.simulation.proofs.Faithful.{keeps_meaning}
 
 abbrev pub int : ℕ → Tree
 int n = Constant (Int (pos n))
@@ -193,27 +187,6 @@ empties_so {m = m} e = forms_so (subst (λ ts. TrAllUnused m [] [] ts [] unspeci
 pub translated_so : {locals : List CVar} {body : Tree} {code : Code} → Body (hello body) locals body code → NamedItems (unit locals code) → is_sound_with [] (unit locals code) ≡ true → Translated (hello body) (unit locals code)
 translated_so translated named sound =
     record { functions = (function_so translated, empties_so refl); declarations = tt; named = named; sound = sound }
-
--- the law, of a module alone whose functions are well formed
-pub faithful_so : (others : List FunctionTree) (body : Tree) (items : List Item) → AreFunctions (below others body) (below others body).functions → IsTrue (are_distinct (map (λ f. f.name) (below others body).functions))
-    → function_named (below others body).functions go_name ≡ Some (function go_name (record { 0 = 0 } ∷ []) body) → Translated (below others body) items → IsFaithful (below others body ∷ []) (part (codes "hello") items ∷ []) (go_of (codes "hello"))
-unfolding KeepsMeaning
-faithful_so others body items functions distinct found translated =
-    let m = below others body in
-    let is : IsProgram (m ∷ []) = record {
-      formed = (
-        record { name = record { some = omega arith; short = omega arith; bytes = refl; front = refl }; imports = tt; functions = functions; forms = tt; distinct = distinct; uses = tt; once = refl; ordered = refl; rows = tt; exported = refl; main = ap (takes_as_many 1) found },
-        tt,
-      );
-      distinct = refl;
-      linked = refl;
-      main = go_of (codes "hello");
-      is_main = refl;
-      function = record { home = m; function = function go_name (record { 0 = 0 } ∷ []) body };
-      is = ap (found_in m) found;
-      one = (record { 0 = 0 }, refl);
-    } in
-    keeps_meaning (m ∷ []) (part (codes "hello") items ∷ []) is (refl, translated, tt)
 
 -- the declaration of a function that may be called
 pub declared_so : (cs : List Callee) (k : ℕ) (c : Callee) → slice_get cs k ≡ Some c → IsDeclared cs Obj (c_name_of c) (replicate c.params Obj)

@@ -18,9 +18,8 @@ use Rattle.c_meaning.specs.Program.{cm}
 use Rattle.plan_rules.specs.Joined.{joined}
 use Rattle.plan_rules.specs.Representation.{raise_type, operation, local}
 use Rattle.plan_rules.specs.Translation.{Name, Tr, TrUnused, TrAllUnused, TrLast, TrArguments, is_sound_with, Translated}
-use Rattle.simulation.specs.Law.{IsFaithful}
-use Rattle.simulation.proofs.ExampleUnits.{int, truth, sum_of, less_of, shown, line_end, f_name, x0, x1, x2, x3, x4, x5, x6, calls, var, plus, is_less, boxed, boxed_truth, a_number, a_word, variable, only, call_first, a_local, calls_function, function, below, hello, one_word, unit, part, go_of, linked, translated_so, faithful_so, recursive_so}
-use Rattle.simulation.proofs.ExampleDerivations.{then_so, boxed_so, made_so, refused_so, branch_so, none_so, one_so, one_kept, two_so, two_kept, first_unboxed}
+use Rattle.plan_rules.proofs.ExampleUnits.{int, truth, sum_of, less_of, shown, line_end, f_name, x0, x1, x2, x3, x4, x5, x6, calls, var, plus, is_less, boxed, boxed_truth, a_number, a_word, variable, only, call_first, a_local, calls_function, function, below, hello, one_word, unit, linked, translated_so, recursive_so}
+use Rattle.plan_rules.proofs.ExampleDerivations.{then_so, boxed_so, made_so, refused_so, branch_so, none_so, one_so, one_kept, two_so, two_kept, first_unboxed}
 
 abbrev is_word_true : Name → CExpr
 is_word_true x = calls Truth (local x ∷ [])
@@ -131,7 +130,7 @@ order_result : Translated (hello (less_of (int 1) (int 2))) (unit order_locals o
 unfolding Tr TrUnused TrAllUnused TrLast TrArguments is_sound_with function_name maker_name initializer_name is_function_name is_local_name is_label_name
 order_result = translated_so (boxed_so x3 refl (refl, two_kept x1 x2 _ refl refl refl)) (search rules) refl
 
--- Where a number is wanted of one, error 1 is raised, and a number stands in its place
+-- Where a number is wanted of one, the error of a wrong type is raised, and a number stands in its place
 abbrev refused_body : Tree
 refused_body = sum_of (int 1) (truth true)
 
@@ -150,13 +149,13 @@ truth_refused = translated_so (boxed_so x4 refl (refl, two_so x1 x2 x1 x3 _ _ _ 
 abbrev counting_body : Tree
 counting_body = only (If (less_of (variable 0) (int 3)) (call_first (more (sum_of (variable 0) (int 1)) none)) (variable 0))
 
-abbrev counting_function : FunctionTree
+abbrev pub counting_function : FunctionTree
 counting_function = function f_name (record { 0 = 0 } ∷ []) counting_body
 
-abbrev start_body : Tree
+abbrev pub start_body : Tree
 start_body = only (call_first (more (int 0) none))
 
-abbrev counting : ModuleTree
+abbrev pub counting : ModuleTree
 counting = below (counting_function ∷ []) start_body
 
 -- two locals serve both the test and the block
@@ -172,10 +171,10 @@ counting_code = assign x1 (a_local x0) (assign x2 (a_number 3) (assign x3 (calls
 abbrev start_code : Code
 start_code = assign x1 (a_word 0) (return (calls_function f_name (local x1 ∷ [])) done)
 
-abbrev counting_unit : List Item
+abbrev pub counting_unit : List Item
 counting_unit = declared Obj (function_name (codes "hello") f_name) (Obj ∷ []) ∷ defined (one_word f_name counting_locals counting_code) ∷ unit (var Obj x1 ∷ []) start_code
 
-calls_in_a_block : Translated counting counting_unit
+pub calls_in_a_block : Translated counting counting_unit
 unfolding Tr TrUnused TrAllUnused TrLast TrArguments is_sound_with function_name maker_name initializer_name is_function_name is_local_name is_label_name
 calls_in_a_block = recursive_so (refl, branch_so x4 _ _ refl (refl, first_unboxed x1 x2 x3 _ refl refl (refl, refl) refl) (refl, one_so x5 x6 _ refl (refl, first_unboxed x1 x2 x3 _ refl refl (refl, refl) refl) (made_so refl)) (refl, refl)) (refl, one_kept x1 refl refl) (search rules) refl
 
@@ -217,7 +216,3 @@ no_long = refl
 counts_up : cm (linked counting_unit) [] [] 5 ≡ record { output = []; end = Ended 3 }
 unfolding cm joined decimal_text function_name maker_name initializer_name
 counts_up = refl
-
--- and the law says so of the module
-faithful : IsFaithful (counting ∷ []) (part (codes "hello") counting_unit ∷ []) (go_of (codes "hello"))
-faithful = faithful_so (counting_function ∷ []) start_body counting_unit (record { name = search rules; body = search rules }, (record { name = search rules; body = search rules }, tt)) refl refl calls_in_a_block

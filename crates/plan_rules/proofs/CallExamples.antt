@@ -15,9 +15,8 @@ use Rattle.c_meaning.specs.Program.{cm}
 use Rattle.plan_rules.specs.Joined.{joined}
 use Rattle.plan_rules.specs.Representation.{raise_count, call_of, operation, local}
 use Rattle.plan_rules.specs.Translation.{Tr, TrUnused, TrAllUnused, TrLast, TrArguments, is_sound_with, Translated}
-use Rattle.simulation.specs.Law.{IsFaithful}
-use Rattle.simulation.proofs.ExampleUnits.{int, sum_of, shown, f_name, x0, x1, x2, x3, x4, calls, var, plus, boxed, a_number, a_word, variable, only, call_first, a_local, calls_function, function, below, one_word, unit, part, go_of, linked, Body, function_so, empties_so, faithful_so, recursive_so}
-use Rattle.simulation.proofs.ExampleDerivations.{then_so, made_so, held, miscounted_so, one_so, one_kept, two_kept}
+use Rattle.plan_rules.proofs.ExampleUnits.{int, sum_of, shown, f_name, x0, x1, x2, x3, x4, calls, var, plus, boxed, a_number, a_word, variable, only, call_first, a_local, calls_function, function, below, one_word, unit, linked, Body, function_so, empties_so, recursive_so}
+use Rattle.plan_rules.proofs.ExampleDerivations.{then_so, made_so, held, miscounted_so, one_so, one_kept, two_kept}
 
 -- Calls of `(define (f n) n)` ---------------------------------------------------------------
 
@@ -104,13 +103,13 @@ too_few = calling_so (then_so _ (miscounted_so [] (refl, refl)) refl) (search ru
 abbrev endless_body : Tree
 endless_body = Sequence (more (shown (variable 0)) (more (f_of (variable 0)) none))
 
-abbrev endless_function : FunctionTree
+abbrev pub endless_function : FunctionTree
 endless_function = function f_name (record { 0 = 0 } ∷ []) endless_body
 
-abbrev start_body : Tree
+abbrev pub start_body : Tree
 start_body = only (f_of (int 7))
 
-abbrev endless : ModuleTree
+abbrev pub endless : ModuleTree
 endless = below (endless_function ∷ []) start_body
 
 abbrev again_code : Code
@@ -120,10 +119,10 @@ abbrev endless_code : Code
 endless_code = assign x1 (a_local x0) (call (operation (Does Display) (local x1 ∷ [])) again_code)
 
 -- it is declared before its definition
-abbrev endless_unit : List Item
+abbrev pub endless_unit : List Item
 endless_unit = declared Obj (function_name (codes "hello") f_name) (Obj ∷ []) ∷ defined (one_word f_name (var Obj x1 ∷ var Obj x2 ∷ []) endless_code) ∷ unit (var Obj x1 ∷ []) tail_code
 
-calls_itself : Translated endless endless_unit
+pub calls_itself : Translated endless endless_unit
 unfolding Tr TrUnused TrAllUnused TrLast TrArguments is_sound_with function_name maker_name initializer_name is_function_name is_local_name is_label_name
 calls_itself = recursive_so (then_so _ (one_kept x1 refl (refl, refl)) (refl, one_kept x2 refl (refl, refl))) (refl, one_kept x1 refl refl) (search rules) refl
 
@@ -144,7 +143,3 @@ wrong_number = refl
 for_ever : cm (linked endless_unit) [] [] 4 ≡ record { output = codes "777"; end = Spent }
 unfolding cm joined decimal_text function_name maker_name initializer_name
 for_ever = refl
-
--- and the law says so of the module
-faithful : IsFaithful (endless ∷ []) (part (codes "hello") endless_unit ∷ []) (go_of (codes "hello"))
-faithful = faithful_so (endless_function ∷ []) start_body endless_unit (record { name = search rules; body = search rules }, (record { name = search rules; body = search rules }, tt)) refl refl calls_itself

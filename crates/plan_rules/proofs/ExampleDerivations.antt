@@ -18,8 +18,8 @@ use Rattle.c_meaning.specs.Checked.{is_typed, variable_named}
 use Rattle.plan_rules.specs.declared.rep.Rep.{Rep}
 use Rattle.plan_rules.specs.declared.rep.Rep.TheVariants as rep
 use Rattle.plan_rules.specs.Representation.{rep_of, c_type_of, step, condition, operation, raise_count, raise_type, local}
-use Rattle.plan_rules.specs.Translation.{Name, Fresh, Place, into, deliver, Statements, IsLocal, Boxed, Made, Refused, Fits, Applied, Argument, Then, Branches, Miscounted}
-use Rattle.simulation.proofs.Names.{same_test}
+use Rattle.plan_rules.specs.Translation.{Name, Fresh, Target, into, deliver, Statements, IsLocal, Boxed, Made, Refused, Fits, Applied, Argument, Then, Branches, Miscounted}
+use Rattle.std.specs.Cmp.Lexicographic.{bytes_decides}
 
 -- Which locals are free ---------------------------------------------------------------------
 
@@ -29,7 +29,7 @@ absent x (y ∷ ys) = if is_same x y then false else absent x ys
 
 fresh : (x : Name) (xs : List Name) → absent x xs ≡ true → Fresh x xs
 fresh x [] e i = i
-fresh x (y ∷ ys) e (inl q) = let bad : false ≡ true = sym (ap (λ b. if b then false else absent x ys) (same_test x y q)) ∙ e in absurd (cc)
+fresh x (y ∷ ys) e (inl q) = let bad : false ≡ true = sym (ap (λ b. if b then false else absent x ys) ((bytes_decides x y).1 q)) ∙ e in absurd (cc)
 fresh x (y ∷ ys) e (inr i) = fresh x ys (go (is_same x y) e) i
   where
     go : (b : Bool) → (if b then false else absent x ys) ≡ true → absent x ys ≡ true
@@ -51,7 +51,7 @@ module _ {vars : List CVar} where
   then_so middle one all = record { middle = middle; one = one; all = all }
 
   -- a number or a truth value in a local, and then a word of it
-  pub boxed_so : {live : List Name} {o : Op} {t : CTy} {given : Statements} {place : Place} {code rest : Code} (x : Name) → usable vars live t x ≡ true → given (into x) code (deliver place (expr.Call (operation o (local x ∷ []))) rest) → Boxed vars o t given live place code rest
+  pub boxed_so : {live : List Name} {o : Op} {t : CTy} {given : Statements} {target : Target} {code rest : Code} (x : Name) → usable vars live t x ≡ true → given (into x) code (deliver target (expr.Call (operation o (local x ∷ []))) rest) → Boxed vars o t given live target code rest
   boxed_so {live = live} {t = t} x e value =
       let free = usable_so vars live t x e in
       record { temporary = x; middle = _; fresh = free.0; is_local = free.1; value = value; box = refl }

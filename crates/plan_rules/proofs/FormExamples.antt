@@ -6,8 +6,6 @@ use Rattle.scheme_data.specs.Decimal.{decimal_text}
 use Rattle.built_table.specs.declared.primitives.Primitive.TheVariants.{Display}
 use Rattle.iface_text.specs.Lines.{untyped_row}
 use Rattle.core_tree.specs.Tree.{Tree, If, Trees, none, more, FunctionTree, ModuleTree}
-use Rattle.core_tree.specs.WellFormed.{IsWellFormed}
-use Rattle.meaning.specs.Program.{IsProgram}
 use Rattle.c_tree.specs.declared.op.Op.TheVariants.{UnboxLong, Primitive as Does}
 use Rattle.c_tree.specs.declared.tree.CTy.TheVariants.{Obj, Long, Int}
 use Rattle.c_tree.specs.declared.tree.CVar.{CVar}
@@ -17,11 +15,9 @@ use Rattle.c_meaning.specs.Program.{cm}
 use Rattle.plan_rules.specs.Joined.{Part, joined}
 use Rattle.plan_rules.specs.Representation.{operation, local}
 use Rattle.plan_rules.specs.Translation.{Tr, TrUnused, TrAllUnused, TrLast, TrArguments, callees, is_sound_with, Translated}
-use Rattle.simulation.specs.Law.{KeepsMeaning, IsFaithful}
-use Rattle.simulation.proofs.ExampleUnits.{int, sum_of, less_of, shown, f_name, go_name, x0, x1, x2, x3, x4, x5, x6, x7, calls, var, plus, is_less, boxed, a_number, a_word, variable, only, call_first, a_local, calls_in, function, definition, unspecified, last_items, part, go_of, function_so, forms_so, declared_so}
-use Rattle.simulation.proofs.ExampleDerivations.{then_so, boxed_so, branch_so, one_kept, first_unboxed}
-use Rattle.simulation.proofs.ImportExamples.{a_name, b_name, called_f, f_callee, used_f, f_declared}
-use Rattle.simulation.proofs.Faithful.{keeps_meaning}
+use Rattle.plan_rules.proofs.ExampleUnits.{int, sum_of, less_of, shown, f_name, go_name, x0, x1, x2, x3, x4, x5, x6, x7, calls, var, plus, is_less, boxed, a_number, a_word, variable, only, call_first, a_local, calls_in, function, definition, unspecified, last_items, part, go_of, function_so, forms_so, declared_so}
+use Rattle.plan_rules.proofs.ExampleDerivations.{then_so, boxed_so, branch_so, one_kept, first_unboxed}
+use Rattle.plan_rules.proofs.ImportExamples.{a_name, b_name, called_f, f_callee, used_f, f_declared}
 
 -- Forms of a module with a function ---------------------------------------------------------
 
@@ -38,7 +34,7 @@ abbrev a_forms : Trees
 a_forms = more (shown (int 1)) (more (If (less_of (f_of (int 0)) (int 2)) (shown (f_of (int 3))) (int 7)) none)
 
 -- `(module a (export (f x))) (display 1) (define (f x) (+ x 1)) (if (< (f 0) 2) (display (f 3)) 7)`
-abbrev exporting : ModuleTree
+abbrev pub exporting : ModuleTree
 exporting = record { name = a_name; imports = []; functions = f_function ∷ []; forms = a_forms; uses = []; exports = untyped_row f_name 1 ∷ []; main = None }
 
 abbrev f_locals : List CVar
@@ -60,10 +56,10 @@ branch_code = assign x1 (a_word 0) (assign x2 (calls_in a_name f_name (local x1 
 abbrev a_code : Code
 a_code = assign x0 (a_word 1) (call (operation (Does Display) (local x0 ∷ [])) branch_code)
 
-abbrev a_unit : List Item
+abbrev pub a_unit : List Item
 a_unit = defined (definition a_name f_name f_locals f_code) ∷ last_items a_name a_locals a_code
 
-forms_evaluated : Translated exporting a_unit
+pub forms_evaluated : Translated exporting a_unit
 unfolding Tr TrUnused TrAllUnused TrLast TrArguments is_sound_with function_name maker_name initializer_name is_function_name is_local_name is_label_name
 forms_evaluated = record {
   functions = (
@@ -78,7 +74,7 @@ forms_evaluated = record {
 -- A form that calls a function of another module --------------------------------------------
 
 -- `(module b (import (f a)) (main go)) (display (f 2)) (define (go args) 0)`
-abbrev importing : ModuleTree
+abbrev pub importing : ModuleTree
 importing =
     record {
       name = b_name;
@@ -93,19 +89,19 @@ importing =
 abbrev b_code : Code
 b_code = assign x0 (a_word 2) (assign x1 (calls_in a_name f_name (local x0 ∷ [])) (call (operation (Does Display) (local x1 ∷ [])) unspecified))
 
-abbrev b_unit : List Item
+abbrev pub b_unit : List Item
 b_unit = f_declared ∷ defined (definition b_name go_name [] (return (a_word 0) done)) ∷ last_items b_name (var Obj x0 ∷ var Obj x1 ∷ []) b_code
 
-import_called_by_a_form : Translated importing b_unit
+pub import_called_by_a_form : Translated importing b_unit
 unfolding Tr TrUnused TrAllUnused TrLast TrArguments is_sound_with function_name maker_name initializer_name is_function_name is_local_name is_label_name
 import_called_by_a_form = record { functions = (function_so refl, forms_so (then_so _ (one_kept x1 refl (refl, one_kept x0 refl refl)) refl)); declarations = (declared_so (callees importing) 1 f_callee refl, tt); named = search rules; sound = refl }
 
 -- The linked program ------------------------------------------------------------------------
 
-abbrev modules : List ModuleTree
+abbrev pub modules : List ModuleTree
 modules = exporting ∷ importing ∷ []
 
-abbrev parts : List Part
+abbrev pub parts : List Part
 parts = part a_name a_unit ∷ part b_name b_unit ∷ []
 
 -- the forms of `a`, then that of `b`; `f` is called three times, and `go` once
@@ -116,43 +112,3 @@ forms_print_in_order = refl
 calls_in_forms_take_turns : cm (joined parts (go_of b_name)) [] [] 2 ≡ record { output = codes "14"; end = Spent }
 unfolding cm joined decimal_text function_name maker_name initializer_name
 calls_in_forms_take_turns = refl
-
--- and the law says so of the modules
-exporting_formed : IsWellFormed exporting
-exporting_formed =
-    record {
-      name = search rules;
-      imports = tt;
-      functions = (record { name = search rules; body = search rules }, tt);
-      forms = search rules;
-      distinct = refl;
-      uses = tt;
-      once = refl;
-      ordered = refl;
-      rows = (record { is_name = search rules; is_new = refl; is_untyped = ((refl, tt), refl) }, tt);
-      exported = refl;
-      main = tt;
-    }
-
-importing_formed : IsWellFormed importing
-importing_formed =
-    record {
-      name = search rules;
-      imports = (record { module_name = search rules; names = (search rules, tt); some = refl }, tt);
-      functions = (record { name = search rules; body = search rules }, tt);
-      forms = search rules;
-      distinct = refl;
-      uses = (record { module_name = search rules; foreign = refl; name = search rules; untyped = ((refl, tt), refl); imported = refl }, tt);
-      once = refl;
-      ordered = refl;
-      rows = tt;
-      exported = refl;
-      main = refl;
-    }
-
-abbrev are_program : IsProgram modules
-are_program = record { formed = (exporting_formed, (importing_formed, tt)); distinct = refl; linked = refl; main = go_of b_name; is_main = refl; function = _; is = refl; one = (record { 0 = 0 }, refl) }
-
-faithful : IsFaithful modules parts (go_of b_name)
-unfolding KeepsMeaning
-faithful = keeps_meaning modules parts are_program (refl, forms_evaluated, (refl, import_called_by_a_form, tt))

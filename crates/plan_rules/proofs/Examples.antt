@@ -14,9 +14,8 @@ use Rattle.c_meaning.specs.Program.{cm}
 use Rattle.plan_rules.specs.Joined.{joined}
 use Rattle.plan_rules.specs.Representation.{operation, local}
 use Rattle.plan_rules.specs.Translation.{Tr, TrUnused, TrAllUnused, TrLast, TrArguments, is_sound_with, Translated}
-use Rattle.simulation.specs.Law.{IsFaithful}
-use Rattle.simulation.proofs.ExampleUnits.{int, sum_of, shown, line_end, x0, x1, x2, x3, x4, x5, calls, var, plus, boxed, a_number, a_word, variable, a_local, hello, unit, part, go_of, linked, translated_so, faithful_so}
-use Rattle.simulation.proofs.ExampleDerivations.{then_so, boxed_so, made_so, none_so, one_so, one_kept, two_kept, first_unboxed}
+use Rattle.plan_rules.proofs.ExampleUnits.{int, sum_of, shown, line_end, x0, x1, x2, x3, x4, x5, calls, var, plus, boxed, a_number, a_word, variable, a_local, hello, unit, linked, translated_so}
+use Rattle.plan_rules.proofs.ExampleDerivations.{then_so, boxed_so, made_so, none_so, one_so, one_kept, two_kept, first_unboxed}
 
 -- Nodes -------------------------------------------------------------------------------------
 
@@ -59,13 +58,13 @@ unfolding Tr TrUnused TrAllUnused TrLast TrArguments is_sound_with function_name
 display_of_sum = translated_so (refl, one_so x3 x4 _ refl (refl, two_kept x1 x2 _ refl refl refl) (made_so refl)) (search rules) refl
 
 -- A body whose first parts nobody takes: a constant has no statement
-abbrev parts : Tree
+abbrev pub parts : Tree
 parts = Sequence (more (int 7) (more (shown (int 1)) (more line_end (more (int 0) none))))
 
-abbrev parts_code : Code
+abbrev pub parts_code : Code
 parts_code = assign x1 (a_word 1) (call (operation (Does Display) (local x1 ∷ [])) (call (operation (Does Newline) []) (return (a_word 0) done)))
 
-unused_parts : Translated (hello parts) (unit (var Obj x1 ∷ []) parts_code)
+pub unused_parts : Translated (hello parts) (unit (var Obj x1 ∷ []) parts_code)
 unfolding Tr TrUnused TrAllUnused TrLast TrArguments is_sound_with function_name maker_name initializer_name is_function_name is_local_name is_label_name
 unused_parts = translated_so (then_so _ refl (then_so _ (one_kept x1 refl refl) (then_so _ (none_so refl) refl))) (search rules) refl
 
@@ -116,7 +115,3 @@ sum_is_the_status = refl
 no_long : cm (linked (unit unboxed_locals unboxed_code)) [] [] 1 ≡ record { output = codes "1"; end = Raised 1 (codes "long") }
 unfolding cm joined decimal_text function_name maker_name initializer_name
 no_long = refl
-
--- and the law says so of the module
-faithful : IsFaithful (hello parts ∷ []) (part (codes "hello") (unit (var Obj x1 ∷ []) parts_code) ∷ []) (go_of (codes "hello"))
-faithful = faithful_so [] parts (unit (var Obj x1 ∷ []) parts_code) (record { name = search rules; body = search rules }, tt) refl refl unused_parts
