@@ -25,15 +25,6 @@ NamedTold name contents written a contents' written' =
 at_told : (name : Bytes) (m : Contents) (contents : Option Contents) (r : Result Bytes ReadErr) → contents ≡ Some m → ReadOne contents name r → ReadOne (Some m) name r
 at_told name m contents r is told = subst (λ (x : Option Contents). ReadOne x name r) is told
 
-unread : (name : Bytes) (m : Contents) (source base : Bytes) (e : ReadErr) (contents' : Option Contents) (left written : Option Bytes) → ReadOne (Some m) name (Err e) → Untouched m source base contents' left written → NamedDid name m source base (answer_of_stop (stop_of_read e)) contents' left written
-unread name m source base (NoFile n) contents' left written told same = no_script told.1 (ap (λ (x : Bytes). answer.NoFile x) told.0) same
-unread name m source base (FileFault n) contents' left written told same = script_fault (ap (λ (x : Bytes). answer.FileFault x) told) same
-unread name m source base Memory contents' left written told same = script_memory refl same
-
-pub named_unread : (name : Bytes) (contents : Option Contents) (written : Option Bytes) (contents' : Option Contents) (e : ReadErr) (r : Result (List End) Stop) → ReadOne contents name (Err e) → contents' ≡ contents → r ≡ Err (stop_of_read e) → NamedTold name contents written (answer_of_lines r) contents' written
-named_unread name contents written contents' e r told same r_is = λ m source base c_is w_is.
-    subst (λ (x : Result (List End) Stop). NamedDid name m source base (answer_of_lines x) contents' (Some source) written) (sym r_is) (unread name m source base e contents' (Some source) written (at_told name m contents (Err e) c_is told) (record { files_are = same ∙ c_is; left_is = refl; written_is = w_is }))
-
 pub named_long : (name bytes text : Bytes) (contents : Option Contents) (written : Option Bytes) (contents' : Option Contents) → ReadOne contents name (Ok bytes) → text ≡ bytes → contents' ≡ contents → longest < length text → NamedTold name contents written (answer.Refused 0 (Limit TheBytes)) contents' written
 named_long name bytes text contents written contents' told is same long = λ m source base c_is w_is.
     long_script bytes (at_told name m contents (Ok bytes) c_is told) (subst (λ (b : Bytes). longest < length b) is long) refl (record { files_are = same ∙ c_is; left_is = refl; written_is = w_is })
