@@ -46,9 +46,9 @@ fn error_text(alloc: Global, code: u8, text: &Text) -> Result<Text, OutOfMemory>
 {
     let mut line = Text::from_bytes(alloc, b"error ")?;
     push_number(&mut line, code as i64)?;
-    line.push(32)?;
+    line.push(b' ')?;
     line.extend(text.as_bytes())?;
-    line.push(10)?;
+    line.push(b'\n')?;
     Ok(line)
 }
 
