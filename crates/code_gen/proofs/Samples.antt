@@ -21,9 +21,9 @@ sample_with fs ns = record { name = codes "hello"; imports = sample_imports; fun
 
 uses_formed : (fs : List FunctionTree) (ns : Trees) → IsUse (sample_with fs ns) (From (codes "a") (row_named (codes "f"))) × IsUse (sample_with fs ns) (Need (codes "a") (row_named (codes "g")))
 uses_formed fs ns =
-    let a : IsSymbol (codes "a") = record { some = omega arith; short = omega arith; bytes = refl } in (
-      record { module_name = a; foreign = refl; name = record { some = omega arith; short = omega arith; bytes = refl }; untyped = ((refl, tt), refl); imported = refl },
-      record { module_name = a; foreign = refl; name = record { some = omega arith; short = omega arith; bytes = refl }; untyped = ((refl, tt), refl); imported = refl },
+    let a : IsSymbol (codes "a") = record { some = omega arith; short = omega arith; bytes = refl; front = refl } in (
+      record { module_name = a; foreign = refl; name = record { some = omega arith; short = omega arith; bytes = refl; front = refl }; untyped = ((refl, tt), refl); imported = refl },
+      record { module_name = a; foreign = refl; name = record { some = omega arith; short = omega arith; bytes = refl; front = refl }; untyped = ((refl, tt), refl); imported = refl },
     )
 
 abbrev two : Lambda → Lambda → List FunctionTree
@@ -35,14 +35,14 @@ two_functions f h ns params body other forms =
     let m = sample_with (two f h) ns in
     let us = uses_formed (two f h) ns in
     record {
-      name = record { some = omega arith; short = omega arith; bytes = refl };
+      name = record { some = omega arith; short = omega arith; bytes = refl; front = refl };
       imports = (record { module_name = us.0.module_name; names = (us.0.name, (us.1.name, tt)); some = refl }, tt);
       functions = (
         record {
-          name = record { some = omega arith; short = omega arith; bytes = refl };
+          name = record { some = omega arith; short = omega arith; bytes = refl; front = refl };
           body = body (record { in_module = m; params = f.params }) (record { params = params; functions = omega arith; used = tt });
         },
-        (record { name = record { some = omega arith; short = omega arith; bytes = refl }; body = other (record { in_module = m; params = h.params }) refl }, tt),
+        (record { name = record { some = omega arith; short = omega arith; bytes = refl; front = refl }; body = other (record { in_module = m; params = h.params }) refl }, tt),
       );
       forms = forms m (omega arith);
       distinct = refl;

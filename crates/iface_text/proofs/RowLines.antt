@@ -1,39 +1,27 @@
 -- A line is the spelling of one row or name at most, and that is what is made of it.
-use Rattle.std.proofs.Common.{◌≡◌, ◌≢◌, ℕ, zero, suc, ◌+◌, ◌-◌, ◌*◌, ◌/◌, ◌≤◌, List, [], ◌∷◌, length, drop, replicate, Bool, true, false, ◌&&◌, refl, ap, sym, ◌∙◌, subst, arith, Option, Some, None, if◌then◌else◌, length-append}
-use Rattle.std.specs.Prelude.{codes, nat_le}
-use Rattle.std.specs.List.{list_all}
+use Rattle.std.proofs.Common.{◌≡◌, ◌≢◌, ℕ, zero, suc, ◌+◌, ◌-◌, ◌*◌, ◌/◌, List, [], ◌∷◌, length, drop, replicate, Bool, true, false, ◌&&◌, refl, ap, sym, ◌∙◌, subst, arith, Option, Some, None, if◌then◌else◌, length-append}
+use Rattle.std.specs.Prelude.{codes}
 use Rattle.std.proofs.lemmas.Bool.{and_parts}
-use Rattle.std.proofs.lemmas.Bool.Decides.{nat_tests}
 use Rattle.std.proofs.lemmas.Slice.Eq.{bytes_eq-Decides}
-use Rattle.scheme_data.specs.Symbols.{is_symbol_byte, IsSymbol}
+use Rattle.scheme_data.specs.Names.{is_same}
+use Rattle.scheme_data.specs.Symbols.{is_symbol_byte, is_symbol, IsSymbol}
+use Rattle.scheme_data.proofs.SymbolTests.{symbol_by_test, symbol_test}
 use Rattle.built_table.specs.declared.primitives.Ty.{Ty}
 use Rattle.built_table.specs.declared.primitives.Ty.TheVariants.{Obj}
 use Rattle.iface_text.specs.declared.interface.Row.{Row}
 use Rattle.iface_text.specs.declared.interface.RowKind.{RowKind}
 use Rattle.iface_text.specs.declared.interface.RowKind.TheVariants.{Fun}
 use Rattle.iface_text.specs.Format.{more_types, types_text, kind_text, row_line, module_line, AreUntyped, IsUntyped}
-use Rattle.iface_text.specs.Lines.{Lacks, is_name, same_bytes, checked_name, module_line_name, untyped_row, checked_row, first_word, candidate, row_of, NoRow, RowLine}
+use Rattle.iface_text.specs.Lines.{Lacks, checked_name, module_line_name, untyped_row, checked_row, first_word, candidate, row_of, NoRow, RowLine}
 use Rattle.iface_text.proofs.Bytes.{passes_other, first_word_is}
 
 -- Tests -------------------------------------------------------------------------------------
 
-pub same_is : (xs ys : List ℕ) → same_bytes xs ys ≡ true → xs ≡ ys
+pub same_is : (xs ys : List ℕ) → is_same xs ys ≡ true → xs ≡ ys
 same_is xs ys h = (bytes_eq-Decides xs ys).0 h
 
-pub is_same : (xs ys : List ℕ) → xs ≡ ys → same_bytes xs ys ≡ true
-is_same xs ys h = (bytes_eq-Decides xs ys).1 h
-
-pub name_is : (n : List ℕ) → is_name n ≡ true → IsSymbol n
-name_is n h =
-    let p = and_parts (nat_le 1 (length n)) (nat_le (length n) 255 && list_all is_symbol_byte n) h in
-    let q = and_parts (nat_le (length n) 255) (list_all is_symbol_byte n) p.1 in
-    record { some = grind (arith, nat_tests, p.0); short = grind (arith, nat_tests, q.0); bytes = q.1 }
-
-at_most : (m n : ℕ) → m ≤ n → nat_le m n ≡ true
-at_most m n h = grind (arith, nat_tests)
-
-pub is_name_true : (n : List ℕ) → IsSymbol n → is_name n ≡ true
-is_name_true n h = rw (at_most 1 (length n) h.some, at_most (length n) 255 h.short) h.bytes
+pub same_test : (xs ys : List ℕ) → xs ≡ ys → is_same xs ys ≡ true
+same_test xs ys h = (bytes_eq-Decides xs ys).1 h
 
 pub lacks_blank : (n : List ℕ) → IsSymbol n → Lacks 32 n
 lacks_blank n h = passes_other is_symbol_byte 32 refl n h.bytes
@@ -47,7 +35,7 @@ some_is x y e = cc
 -- The name of a module's line ---------------------------------------------------------------
 
 checked_name_some : (line n : List ℕ) → IsSymbol n → line ≡ module_line n → checked_name line n ≡ Some n
-checked_name_some line n h e = rw (is_name_true n h, is_same line (module_line n) e) refl
+checked_name_some line n h e = rw (symbol_test n h, same_test line (module_line n) e) refl
 
 pub module_line_name_is : (name : List ℕ) → IsSymbol name → module_line_name (module_line name) ≡ Some name
 unfolding module_line_name
@@ -58,15 +46,15 @@ pub record ModuleLine (line name : List ℕ) : Type 0 where
   pub is_name : IsSymbol name
   pub are : line ≡ module_line name
 
-checked_name_by : (line n name : List ℕ) (v : Bool) → (is_name n && same_bytes line (module_line n)) ≡ v → (if v then Some n else None) ≡ Some name → ModuleLine line name
+checked_name_by : (line n name : List ℕ) (v : Bool) → (is_symbol n && is_same line (module_line n)) ≡ v → (if v then Some n else None) ≡ Some name → ModuleLine line name
 checked_name_by line n name true e h =
-    let p = and_parts (is_name n) (same_bytes line (module_line n)) e in
-    subst (λ (m : List ℕ). ModuleLine line m) (some_is n name h) (record { is_name = name_is n p.0; are = same_is line (module_line n) p.1 })
+    let p = and_parts (is_symbol n) (is_same line (module_line n)) e in
+    subst (λ (m : List ℕ). ModuleLine line m) (some_is n name h) (record { is_name = symbol_by_test n p.0; are = same_is line (module_line n) p.1 })
 checked_name_by line n name false e h = absurd (cc)
 
 pub module_line_sound : (line name : List ℕ) → module_line_name line ≡ Some name → ModuleLine line name
 unfolding module_line_name
-module_line_sound line name h = checked_name_by line (drop 7 line) name (is_name (drop 7 line) && same_bytes line (module_line (drop 7 line))) refl h
+module_line_sound line name h = checked_name_by line (drop 7 line) name (is_symbol (drop 7 line) && is_same line (module_line (drop 7 line))) refl h
 
 module_none_by : (line : List ℕ) (o : Option (List ℕ)) → module_line_name line ≡ o → ((name : List ℕ) → IsSymbol name → line ≢ module_line name) → o ≡ None
 module_none_by line None e h = refl
@@ -111,7 +99,7 @@ candidate_is name n h =
     ap (candidate (row_line (untyped_row name n))) w ∙ ap (untyped_row name) (ap (λ (k : ℕ). (k - (length name + 10)) / 4) (line_len name n) ∙ types_len n (length name))
 
 checked_some : (line : List ℕ) (r : Row) → IsSymbol r.name → line ≡ row_line r → checked_row line r ≡ Some r
-checked_some line r h e = rw (is_name_true r.name h, is_same line (row_line r) e) refl
+checked_some line r h e = rw (symbol_test r.name h, same_test line (row_line r) e) refl
 
 pub row_of_spelled : (name : List ℕ) (n : ℕ) → IsSymbol name → row_of (row_line (untyped_row name n)) ≡ Some (untyped_row name n)
 unfolding row_of
@@ -120,10 +108,10 @@ row_of_spelled name n h = ap (checked_row (row_line (untyped_row name n))) (cand
 pub row_of_row : (line : List ℕ) (r : Row) → RowLine line r → row_of line ≡ Some r
 row_of_row line r h = ap row_of h.are ∙ subst (λ (q : Row). row_of (row_line q) ≡ Some q) (untyped_is r h.is_untyped) (row_of_spelled r.name (params_in r.kind) h.is_name)
 
-checked_by : (line name : List ℕ) (n : ℕ) (r : Row) (v : Bool) → (is_name name && same_bytes line (row_line (untyped_row name n))) ≡ v → (if v then Some (untyped_row name n) else None) ≡ Some r → RowLine line r
+checked_by : (line name : List ℕ) (n : ℕ) (r : Row) (v : Bool) → (is_symbol name && is_same line (row_line (untyped_row name n))) ≡ v → (if v then Some (untyped_row name n) else None) ≡ Some r → RowLine line r
 checked_by line name n r true e h =
-    let p = and_parts (is_name name) (same_bytes line (row_line (untyped_row name n))) e in
-    subst (λ (q : Row). RowLine line q) (some_is (untyped_row name n) r h) (record { is_name = name_is name p.0; is_untyped = (are_objects n, refl); are = same_is line (row_line (untyped_row name n)) p.1 })
+    let p = and_parts (is_symbol name) (is_same line (row_line (untyped_row name n))) e in
+    subst (λ (q : Row). RowLine line q) (some_is (untyped_row name n) r h) (record { is_name = symbol_by_test name p.0; is_untyped = (are_objects n, refl); are = same_is line (row_line (untyped_row name n)) p.1 })
 checked_by line name n r false e h = absurd (cc)
 
 pub row_of_sound : (line : List ℕ) (r : Row) → row_of line ≡ Some r → RowLine line r

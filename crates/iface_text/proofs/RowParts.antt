@@ -1,6 +1,9 @@
 -- The parts of a row's line.
-use Rattle.std.proofs.Common.{◌≡◌, ◌≢◌, ℕ, List, ◌∷◌, ◌++◌, replicate, refl, ap, sym, ◌∙◌, subst}
+use Rattle.std.proofs.Common.{◌≡◌, ◌≢◌, ℕ, List, ◌∷◌, ◌++◌, true, false, ◌&&◌, replicate, refl, ap, sym, ◌∙◌, subst}
 use Rattle.std.specs.Prelude.{codes, Option, Some}
+use Rattle.std.specs.List.{list_all}
+use Rattle.std.proofs.lemmas.Bool.{and_parts}
+use Rattle.std.proofs.lemmas.List.Folds.{list_all-append}
 use Rattle.std.proofs.lemmas.List.{append_cancel_left, append_cancel_right}
 use Rattle.scheme_data.specs.Symbols.{IsSymbol}
 use Rattle.built_table.specs.declared.primitives.Ty.{Ty}
@@ -8,7 +11,7 @@ use Rattle.built_table.specs.declared.primitives.Ty.TheVariants.{Obj}
 use Rattle.iface_text.specs.declared.interface.Row.{Row}
 use Rattle.iface_text.specs.declared.interface.RowKind.TheVariants.{Fun}
 use Rattle.iface_text.specs.Format.{row_line}
-use Rattle.iface_text.specs.Lines.{Lacks, untyped_row, NoRow, RowLine, row_of}
+use Rattle.iface_text.specs.Lines.{other_than, Lacks, untyped_row, NoRow, RowLine, row_of}
 use Rattle.iface_text.proofs.Bytes.{SameCut, cut_once}
 use Rattle.iface_text.proofs.RowLines.{lacks_blank, are_objects, row_of_spelled}
 use Rattle.iface_text.proofs.Counts.{objects_text}
@@ -28,6 +31,17 @@ first_cut line after before rest e f h = record { are = e ∙ ap (λ (bs : List 
 same_parts : (line before rest name : List ℕ) (n : ℕ) → FirstCut line before rest → IsSymbol name → line ≡ row_line (untyped_row name n) → SameCut before rest name (row_tail n)
 same_parts line before rest name n cut h e =
     cut_once 32 before rest name (row_tail n) cut.lacks (lacks_blank name h) (append_cancel_left (codes "fun ") (before ++ 32 ∷ rest) (name ++ 32 ∷ row_tail n) (sym cut.are ∙ e))
+
+with_blank : (name tail : List ℕ) → Lacks 32 (name ++ 32 ∷ tail) → ⊥
+with_blank name tail h =
+    let both : (list_all (other_than 32) name && list_all (other_than 32) (32 ∷ tail)) ≡ true = sym (list_all-append (other_than 32) name (32 ∷ tail)) ∙ h in
+    let q : false ≡ true = (and_parts (list_all (other_than 32) name) (list_all (other_than 32) (32 ∷ tail)) both).1 in
+    absurd (cc)
+
+-- a row's line has a blank behind the name
+pub no_blank : (line after : List ℕ) → line ≡ codes "fun " ++ after → Lacks 32 after → NoRow line
+no_blank line after e h name n named f =
+    with_blank name (row_tail n) (subst (Lacks 32) (append_cancel_left (codes "fun ") after (name ++ 32 ∷ row_tail n) (sym e ∙ f)) h)
 
 pub no_name : (line before rest : List ℕ) → FirstCut line before rest → (IsSymbol before → ⊥) → NoRow line
 no_name line before rest cut none name n h e = none (subst IsSymbol (sym (same_parts line before rest name n cut h e).before) h)

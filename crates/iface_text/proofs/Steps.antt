@@ -10,9 +10,10 @@ use Rattle.iface_text.specs.declared.reader.Stage.{Stage}
 use Rattle.iface_text.specs.declared.reader.Stage.TheVariants.{Version, Module, Rows, Done}
 use Rattle.iface_text.specs.Format.{IfaceTree, version_line, module_line, row_line, end_line, lines_of, AreRows, HasSpelling}
 use Rattle.iface_text.specs.Refusal.{Viable}
-use Rattle.iface_text.specs.Lines.{same_bytes, module_line_name, row_of, RowLine}
+use Rattle.scheme_data.specs.Names.{is_same}
+use Rattle.iface_text.specs.Lines.{module_line_name, row_of, RowLine}
 use Rattle.iface_text.specs.Reading.{step, step_by, step_version, step_module, step_rows, named, one_more, with_row}
-use Rattle.iface_text.proofs.RowLines.{same_is, is_same, some_is, module_line_sound, module_line_name_is, row_of_sound, row_of_row}
+use Rattle.iface_text.proofs.RowLines.{same_is, same_test, some_is, module_line_sound, module_line_name_is, row_of_sound, row_of_row}
 use Rattle.iface_text.proofs.RowLists.{names_in, row_lines, Fresh, next_line, nothing_after_end, push_row}
 
 -- What a reader knows -----------------------------------------------------------------------
@@ -50,7 +51,7 @@ an_interface = tree (codes "a") []
 
 a_spelling : HasSpelling an_interface
 unfolding an_interface
-a_spelling = record { module_is_name = record { some = lit≤ tt; short = lit≤ tt; bytes = refl }; are_rows = tt }
+a_spelling = record { module_is_name = record { some = lit≤ tt; short = lit≤ tt; bytes = refl; front = refl }; are_rows = tt }
 
 pub viable : (g : Stage) (m : List ℕ) (rs : List Row) (ns : List (List ℕ)) → Sound g m rs ns → Viable (so_far g m rs)
 unfolding an_interface
@@ -66,7 +67,7 @@ pub record After (before : List (List ℕ)) (line : List ℕ) (t : Reader) : Typ
   pub sound : Sound t.stage t.module_name t.rows t.names
   pub so_far_is : so_far t.stage t.module_name t.rows ≡ before ++ line ∷ []
 
-version_by : (s : Reader) (line : List ℕ) (t : Reader) (v : Bool) → same_bytes line version_line ≡ v → IsEmpty s.rows s.names
+version_by : (s : Reader) (line : List ℕ) (t : Reader) (v : Bool) → is_same line version_line ≡ v → IsEmpty s.rows s.names
     → (if v then Some (record s { stage = Module }) else None) ≡ Some t → After [] line t
 version_by s line t true e h q = subst (After [] line) (some_is (record s { stage = Module }) t q) (record { sound = h; so_far_is = ap (λ (l : List ℕ). l ∷ []) (sym (same_is line version_line e)) })
 version_by s line t false e h q = absurd (cc)
@@ -107,7 +108,7 @@ row_by : (s : Reader) (line : List ℕ) (t : Reader) (o : Option Row) → row_of
 row_by s line t None e h g q = absurd (cc)
 row_by s line t (Some r) e h g q = new_by s line t r (has_name s.names r.name) refl (row_of_sound line r e) h g q
 
-rows_by : (s : Reader) (line : List ℕ) (t : Reader) (v : Bool) → same_bytes line end_line ≡ v → Tells s.module_name s.rows s.names → s.stage ≡ Rows
+rows_by : (s : Reader) (line : List ℕ) (t : Reader) (v : Bool) → is_same line end_line ≡ v → Tells s.module_name s.rows s.names → s.stage ≡ Rows
     → (if v then Some (record s { stage = Done }) else one_more s (row_of line)) ≡ Some t → After (so_far Rows s.module_name s.rows) line t
 rows_by s line t true e h g q =
     subst (After (so_far Rows s.module_name s.rows) line) (some_is (record s { stage = Done }) t q)
@@ -115,9 +116,9 @@ rows_by s line t true e h g q =
 rows_by s line t false e h g q = row_by s line t (row_of line) refl h g q
 
 taken_by : (g : Stage) (s : Reader) (line : List ℕ) (t : Reader) → s.stage ≡ g → Sound g s.module_name s.rows s.names → step_by g s line ≡ Some t → After (so_far g s.module_name s.rows) line t
-taken_by Version s line t g h q = version_by s line t (same_bytes line version_line) refl h q
+taken_by Version s line t g h q = version_by s line t (is_same line version_line) refl h q
 taken_by Module s line t g h q = module_by s line t (module_line_name line) refl h q
-taken_by Rows s line t g h q = rows_by s line t (same_bytes line end_line) refl h g q
+taken_by Rows s line t g h q = rows_by s line t (is_same line end_line) refl h g q
 taken_by Done s line t g h q = absurd (cc)
 
 pub taken : (s : Reader) (line : List ℕ) (t : Reader) → Sound s.stage s.module_name s.rows s.names → step s line ≡ Some t → After (so_far s.stage s.module_name s.rows) line t
@@ -136,7 +137,7 @@ done_after m i rs line others e =
     sym (append_assoc (row_lines rs ++ end_line ∷ []) (line ∷ []) others ∙ append_assoc (row_lines rs) (end_line ∷ []) (line ∷ others)) ∙ p
 
 no_version : (s : Reader) (line : List ℕ) → step_version s line ≡ None → line ≢ version_line
-no_version s line q e = let p : same_bytes line version_line ≡ true = is_same line version_line e in let z = rw p at q in absurd (cc)
+no_version s line q e = let p : is_same line version_line ≡ true = same_test line version_line e in let z = rw p at q in absurd (cc)
 
 no_module : (s : Reader) (line name : List ℕ) → step_module s line ≡ None → IsSymbol name → line ≢ module_line name
 no_module s line name q h e =
@@ -144,9 +145,9 @@ no_module s line name q h e =
     let z = rw p at q in absurd (cc)
 
 no_end : (s : Reader) (line : List ℕ) → step_rows s line ≡ None → line ≢ end_line
-no_end s line q e = let p : same_bytes line end_line ≡ true = is_same line end_line e in let z = rw p at q in absurd (cc)
+no_end s line q e = let p : is_same line end_line ≡ true = same_test line end_line e in let z = rw p at q in absurd (cc)
 
-not_end_by : (line : List ℕ) (v : Bool) → same_bytes line end_line ≡ v → line ≢ end_line → v ≡ false
+not_end_by : (line : List ℕ) (v : Bool) → is_same line end_line ≡ v → line ≢ end_line → v ≡ false
 not_end_by line false e h = refl
 not_end_by line true e h = absurd (h (same_is line end_line e))
 
@@ -155,7 +156,7 @@ fresh_line names line f = record { is_name = f.is_row.is_name; is_untyped = f.is
 
 no_fresh : (s : Reader) (line : List ℕ) → step_rows s line ≡ None → line ≢ end_line → Fresh s.names line → ⊥
 no_fresh s line q n f =
-    let e : same_bytes line end_line ≡ false = not_end_by line (same_bytes line end_line) refl n in
+    let e : is_same line end_line ≡ false = not_end_by line (is_same line end_line) refl n in
     let r : row_of line ≡ Some f.row = row_of_row line f.row (fresh_line s.names line f) in
     let k : has_name s.names f.row.name ≡ false = f.is_row.is_new in
     let z = rw (e, r, k) at q in absurd (cc)

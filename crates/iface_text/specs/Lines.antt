@@ -1,8 +1,8 @@
 -- What a line of an interface's text tells, by the one row or name that it can be the spelling of.
-use Rattle.std.specs.Prelude.{◌≡◌, ◌≢◌, ℕ, ◌+◌, ◌-◌, ◌/◌, List, Bool, not, ◌&&◌, if◌then◌else◌, nat_eq, nat_le, IsTrue, length, take, drop, replicate, Option, Some, None}
+use Rattle.std.specs.Prelude.{◌≡◌, ◌≢◌, ℕ, ◌+◌, ◌-◌, ◌/◌, List, Bool, not, ◌&&◌, if◌then◌else◌, nat_eq, IsTrue, length, take, drop, replicate, Option, Some, None}
 use Rattle.std.specs.List.{list_all, prefix_len}
-use Rattle.std.specs.Cmp.Lexicographic.{pointwise}
-use Rattle.scheme_data.specs.Symbols.{is_symbol_byte, IsSymbol}
+use Rattle.scheme_data.specs.Names.{is_same}
+use Rattle.scheme_data.specs.Symbols.{is_symbol, IsSymbol}
 use Rattle.built_table.specs.declared.primitives.Ty.TheVariants.{Obj}
 use Rattle.iface_text.specs.declared.interface.Row.{Row}
 use Rattle.iface_text.specs.declared.interface.RowKind.TheVariants.{Fun}
@@ -15,15 +15,9 @@ other_than byte b = not (nat_eq b byte)
 abbrev pub Lacks : ℕ → List ℕ → Type 0
 Lacks byte bytes = IsTrue (list_all (other_than byte) bytes)
 
-abbrev pub is_name : List ℕ → Bool
-is_name bytes = nat_le 1 (length bytes) && (nat_le (length bytes) 255 && list_all is_symbol_byte bytes)
-
-abbrev pub same_bytes : List ℕ → List ℕ → Bool
-same_bytes xs ys = pointwise nat_eq xs ys
-
 -- the name, where the line is that of the module of this name
 abbrev pub checked_name : List ℕ → List ℕ → Option (List ℕ)
-checked_name line name = if is_name name && same_bytes line (module_line name) then Some name else None
+checked_name line name = if is_symbol name && is_same line (module_line name) then Some name else None
 
 unfoldable pub module_line_name : List ℕ → Option (List ℕ)
 module_line_name line = checked_name line (drop 7 line)
@@ -44,7 +38,7 @@ NoRow line = (name : List ℕ) (params : ℕ) → IsSymbol name → line ≢ row
 
 -- the row, where the line is its spelling
 abbrev pub checked_row : List ℕ → Row → Option Row
-checked_row line r = if is_name r.name && same_bytes line (row_line r) then Some r else None
+checked_row line r = if is_symbol r.name && is_same line (row_line r) then Some r else None
 
 -- a name is what stands before the first blank
 abbrev pub first_word : List ℕ → List ℕ

@@ -10,7 +10,8 @@ use Rattle.iface_text.specs.declared.reader.Stage.{Stage}
 use Rattle.iface_text.specs.declared.reader.Stage.TheVariants as stage
 use Rattle.iface_text.specs.Format.{IfaceTree, iface_tree, version_line, end_line}
 use Rattle.iface_text.specs.Refusal.{lines_and_rest, line_after}
-use Rattle.iface_text.specs.Lines.{same_bytes, module_line_name, row_of}
+use Rattle.scheme_data.specs.Names.{is_same}
+use Rattle.iface_text.specs.Lines.{module_line_name, row_of}
 
 abbrev pub start : Reader
 start = record { stage = stage.Version; module_name = []; rows = []; names = [] }
@@ -18,7 +19,7 @@ start = record { stage = stage.Version; module_name = []; rows = []; names = [] 
 -- One line ----------------------------------------------------------------------------------
 
 abbrev pub step_version : Reader → List ℕ → Option Reader
-step_version s line = if same_bytes line version_line then Some (record s { stage = stage.Module }) else None
+step_version s line = if is_same line version_line then Some (record s { stage = stage.Module }) else None
 
 abbrev pub named : Reader → Option (List ℕ) → Option Reader
 named s None = None
@@ -35,7 +36,7 @@ one_more s None = None
 one_more s (Some r) = if has_name s.names r.name then None else Some (with_row s r)
 
 abbrev pub step_rows : Reader → List ℕ → Option Reader
-step_rows s line = if same_bytes line end_line then Some (record s { stage = stage.Done }) else one_more s (row_of line)
+step_rows s line = if is_same line end_line then Some (record s { stage = stage.Done }) else one_more s (row_of line)
 
 abbrev pub step_by : Stage → Reader → List ℕ → Option Reader
 step_by stage.Version s line = step_version s line

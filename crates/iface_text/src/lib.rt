@@ -7,8 +7,5 @@ mod reader;
 mod writer;
 
 pub use interface::{Iface, IfaceErr, Row, RowKind, read_iface, write_iface};
-pub use lines::{Cut, cut_at, is_name, read_row};
+pub use lines::{Cut, cut_at, read_row};
 pub use writer::write_row;
-
-#[cfg(test)]
-mod tests;

@@ -1,14 +1,14 @@
 // A line of an interface's text, taken apart.
-ghost use Rattle.std.specs.Prelude.{◌≡◌, ◌≢◌, ◌≤◌, ◌++◌, ◌∷◌, ℕ, length, IsTrue, ◌↔◌, IfOk, IfSome, IfNone, MatchOption, replicate};
-ghost use Rattle.std.specs.List.{prefix_len, list_all};
-ghost use Rattle.scheme_data.specs.Symbols.{is_symbol_byte, IsSymbol};
+ghost use Rattle.std.specs.Prelude.{◌≡◌, ◌≢◌, ◌≤◌, ◌++◌, ◌∷◌, ℕ, length, IfOk, IfSome, IfNone, MatchOption, replicate};
+ghost use Rattle.std.specs.List.{prefix_len};
+ghost use Rattle.scheme_data.specs.Symbols.{IsSymbol};
 ghost use Rattle.built_table.specs.declared.primitives.Ty.TheVariants.{Obj};
 ghost use Rattle.iface_text.specs.Format.{types_text, row_line};
 ghost use Rattle.iface_text.specs.Lines.{other_than, Lacks, module_line_name, row_of, untyped_row, NoRow, RowLine};
 
 use crate::interface::{Row, RowKind};
 use built_table::Ty;
-use scheme_data::{List, OutOfMemory, Text, is_symbol_byte};
+use scheme_data::{List, OutOfMemory, Text, is_symbol};
 use std::alloc::Global;
 
 /// What stands before the first place of a byte, and what follows it.
@@ -52,26 +52,13 @@ pub fn cut_at(bytes: &[u8], byte: u8) -> Option<Cut<'_>>
     })
 }
 
-fn are_symbols(bytes: &[u8]) -> bool
-    ensures { result ≡ list_all is_symbol_byte bytes.now }
-{
-    bytes.iter().all(|b| is_symbol_byte(*b))
-}
-
-/// Whether the bytes are a name.
-pub fn is_name(bytes: &[u8]) -> bool
-    ensures { IsTrue result ↔ IsSymbol bytes.now }
-{
-    !bytes.is_empty() && bytes.len() <= 255 && are_symbols(bytes)
-}
-
 /// The name in a line `module NAME`; none where the line is no such line.
 pub fn name_of_module_line(line: &[u8]) -> Option<&[u8]>
     ensures some { IfSome result (λ name. module_line_name line.now ≡ Some name.now) }
     ensures none { IfNone result (module_line_name line.now ≡ None) }
 {
     let name = line.strip_prefix(b"module ")?;
-    if !is_name(name) {
+    if !is_symbol(name) {
         return None;
     }
     Some(name)
@@ -99,7 +86,7 @@ fn parts_of_row(line: &[u8]) -> Option<RowParts<'_>>
     ensures none { IfNone result (NoRow line.now) }
 {
     let cut = cut_at(line.strip_prefix(b"fun ")?, b' ')?;
-    if !is_name(cut.before) {
+    if !is_symbol(cut.before) {
         return None;
     }
     let types = cut.after.strip_prefix(b"(")?.strip_suffix(b") obj")?;
@@ -113,7 +100,7 @@ fn parts_of_row(line: &[u8]) -> Option<RowParts<'_>>
 fn objects(alloc: Global, count: usize) -> Result<List<Ty>, OutOfMemory>
     ensures { IfOk result (λ types. types ≡ replicate count Obj) }
 {
-    let mut types = List::new(alloc);
+    let mut types = List::with_capacity(alloc, count)?;
     for i in 0..count {
         types.push(Ty::Obj)?;
     }

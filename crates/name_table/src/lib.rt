@@ -4,6 +4,3 @@
 mod table;
 
 pub use table::NameTable;
-
-#[cfg(test)]
-mod tests;

@@ -1,28 +1,32 @@
 ghost use Rattle.std.specs.Prelude.{◌≡◌, ◌<◌, [], ◌∷◌, ◌++◌, length, slice_get, Some, not, if◌then◌else◌, IfOk, OnErr};
 ghost use Rattle.name_table.specs.Names.{has_name, place_of, AreDistinct};
 
-use indexmap::IndexSet;
-use scheme_data::OutOfMemory;
+use scheme_data::{OutOfMemory, Text};
 use std::alloc::Global;
+use std::collections::BTreeMap;
 use std::marker::Model;
 
-/// Distinct names in order of first sight, each found by its bytes.
+/// Distinct names in order of first sight, each found by its bytes. They are kept in an ordered map,
+/// since whoever chooses names could choose them so that they meet in a hashed one.
 #[derive(Drop)]
 pub struct NameTable {
     alloc: Global,
-    names: IndexSet<Vec<u8>>,
+    names: Vec<Text>,
+    places: BTreeMap<Vec<u8>, usize>,
 }
 
 impl Model for NameTable {
     ghost use Rattle.std.specs.Prelude.{ℕ, List};
     ghost use Rattle.std.specs.Coded.{coded_list, coded_ℕ};
-    ghost use Rattle.name_table.specs.Names.{names_of};
+    ghost use Rattle.name_table.specs.Names.{IsIndex};
 
     ghost Value = { List (List ℕ) };
 
     ghost coded = { coded_list (coded_list coded_ℕ) };
 
-    ghost view = { λ t. names_of t.names.keys };
+    ghost view = { λ t. t.names.items };
+
+    ghost invariant = { λ t. IsIndex t.names.items t.places.entries };
 }
 
 impl NameTable {
@@ -32,7 +36,8 @@ impl NameTable {
     {
         NameTable {
             alloc,
-            names: IndexSet::new(alloc),
+            names: Vec::new(alloc),
+            places: BTreeMap::new(alloc),
         }
     }
 
@@ -49,21 +54,21 @@ impl NameTable {
         requires { place < length self.now }
         ensures { slice_get self.now place ≡ Some result.now }
     {
-        &self.names[place]
+        self.names[place].as_bytes()
     }
 
     /// The place of a name.
     pub fn position(&self, name: &[u8]) -> Option<usize>
         ensures { result ≡ place_of name.now self.now }
     {
-        self.names.get_index_of(name)
+        self.places.get(name).copied()
     }
 
     /// Whether it has a name.
     pub fn contains(&self, name: &[u8]) -> bool
         ensures { result ≡ has_name self.now name.now }
     {
-        self.names.contains(name)
+        self.places.contains_key(name)
     }
 
     /// Puts a name at the end, where it isn't there yet, and says whether it did. Without memory for it nothing changes.
@@ -75,8 +80,11 @@ impl NameTable {
         if self.contains(name) {
             return Ok(false);
         }
+        let text = Text::from_bytes(self.alloc, name)?;
         let key = Vec::from_slice(self.alloc, name)?;
-        self.names.insert(key)?;
+        self.names.reserve(1)?;
+        self.places.insert(key, self.names.len())?;
+        self.names.push_reserved(text);
         Ok(true)
     }
 }

@@ -4,9 +4,11 @@ use Rattle.std.specs.List.{list_all, prefix_len}
 use Rattle.std.specs.Cmp.Lexicographic.{pointwise}
 use Rattle.std.proofs.lemmas.Bool.Decides.{Decides-eqb}
 use Rattle.std.proofs.lemmas.Slice.Eq.{strip_prefix_is}
+use Rattle.std.proofs.Math.Seq.{take-append_seam}
 use Rattle.std.proofs.lemmas.List.{append_cancel_left}
 use Rattle.std.proofs.lemmas.List.Folds.{length-prefix_len}
-use Rattle.scheme_data.specs.Symbols.{is_symbol_byte}
+use Rattle.scheme_data.specs.Symbols.{is_symbol_byte, has_symbol_form}
+use Rattle.scheme_data.proofs.SymbolTests.{symbol_of_form, has_form}
 use Rattle.object_text.specs.Header.{IsNamed, NotNamed, Stops}
 
 both_true : (a b : Bool) → (a && b) ≡ true → (a ≡ true) × (b ≡ true)
@@ -64,38 +66,21 @@ named_once bytes front n r m s h k =
     let q : n ≡ m = front_once n r m s e l in
     record { name = q; rest = append_cancel_left m r s (subst (λ (x : List ℕ). x ++ r ≡ m ++ s) q e) }
 
-not_both : (n : ℕ) → 1 ≤ n → n ≡ 0 → ⊥
-not_both n h k = omega arith
-
-far : (n : ℕ) → n ≤ 255 → 255 < n → ⊥
-far n h k = omega arith
-
-pub too_short : (bytes front after : List ℕ) → bytes ≡ front ++ after → prefix_len is_symbol_byte after ≡ 0 → NotNamed bytes front
-too_short bytes front after e z n r h =
-    let l = name_len bytes front after n r e h in
-    let k : 1 ≤ length n = h.is_name.some in
-    let y : length n ≡ 0 = sym l ∙ z in
-    not_both (length n) k y
-
-pub too_long : (bytes front after : List ℕ) → bytes ≡ front ++ after → 255 < prefix_len is_symbol_byte after → NotNamed bytes front
-too_long bytes front after e z n r h =
+-- the run of symbol bytes is the name, so where it is no symbol there is no name
+pub no_symbol : (bytes front after run rest : List ℕ) → bytes ≡ front ++ after → run ≡ take (prefix_len is_symbol_byte after) after → has_symbol_form run ≡ false → NotNamed bytes front
+no_symbol bytes front after run rest e f none n r h =
+    let here : n ++ r ≡ after = append_cancel_left front (n ++ r) after (sym h.are ∙ e) in
     let l : prefix_len is_symbol_byte after ≡ length n = name_len bytes front after n r e h in
-    far (length n) h.is_name.short (subst (λ (k : ℕ). 255 < k) l z)
+    let same : n ≡ run = sym (take-append_seam n r) ∙ ap (λ (i : ℕ). take i (n ++ r)) (sym l) ∙ ap (λ (x : List ℕ). take (prefix_len is_symbol_byte after) x) here ∙ sym f in
+    let q : false ≡ true = sym none ∙ subst (λ (x : List ℕ). has_symbol_form x ≡ true) same (has_form n h.is_name) in
+    absurd (cc)
 
 pub no_front : (bytes front : List ℕ) → pointwise nat_eq (take (length front) bytes) front ≡ false → NotNamed bytes front
 no_front bytes front h n r k = strip_prefix_is Decides-eqb bytes front None h (n ++ r) k.are
 
-pub run_named : (k : ℕ) (bytes front after n r : List ℕ) → bytes ≡ front ++ after → k ≡ prefix_len is_symbol_byte after → 1 ≤ k → k ≤ 255 → n ≡ take k after → r ≡ drop k after → IsNamed bytes front n r
-run_named k bytes front after n r e run some short f d =
-    let t : n ≡ take (prefix_len is_symbol_byte after) after = f ∙ ap (λ (i : ℕ). take i after) run in
-    let u : r ≡ drop (prefix_len is_symbol_byte after) after = d ∙ ap (λ (i : ℕ). drop i after) run in
-    let l : length n ≡ k = ap length t ∙ (length-prefix_len is_symbol_byte after ∙ sym run) in
-    record {
-      are = e ∙ ap (λ (x : List ℕ). front ++ x) (sym (rw (f, d) (take-append-drop k after)));
-      is_name = record {
-        some = subst (λ (i : ℕ). 1 ≤ i) (sym l) some;
-        short = subst (λ (i : ℕ). i ≤ 255) (sym l) short;
-        bytes = subst (λ (x : List ℕ). IsTrue (list_all is_symbol_byte x)) (sym t) (run_passes is_symbol_byte after);
-      };
-      stops = subst (λ (x : List ℕ). Stops is_symbol_byte x) (sym u) (run_stops is_symbol_byte after);
-    }
+pub run_named : (bytes front after n r : List ℕ) → bytes ≡ front ++ after → n ≡ take (prefix_len is_symbol_byte after) after → r ≡ drop (prefix_len is_symbol_byte after) after → has_symbol_form n ≡ true → IsNamed bytes front n r
+run_named bytes front after n r e f d form = record {
+  are = e ∙ ap (λ (x : List ℕ). front ++ x) (sym (rw (f, d) (take-append-drop (prefix_len is_symbol_byte after) after)));
+  is_name = symbol_of_form n form (subst (λ (x : List ℕ). IsTrue (list_all is_symbol_byte x)) (sym f) (run_passes is_symbol_byte after));
+  stops = subst (λ (x : List ℕ). Stops is_symbol_byte x) (sym d) (run_stops is_symbol_byte after);
+}

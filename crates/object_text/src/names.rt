@@ -2,7 +2,7 @@
 ghost use Rattle.std.specs.Prelude.{IfSome, IfNone};
 ghost use Rattle.object_text.specs.Header.{IsNamed, NotNamed};
 
-use scheme_data::symbol_len;
+use scheme_data::{has_symbol_form, symbol_len};
 
 /// A name, and what follows it.
 #[derive(Drop)]
@@ -17,10 +17,9 @@ pub fn named_after<'a>(bytes: &'a [u8], front: &[u8]) -> Option<Named<'a>>
     ensures none { IfNone result (NotNamed bytes.now front.now) }
 {
     let after = bytes.strip_prefix(front)?;
-    let len = symbol_len(after);
-    if len == 0 || len > 255 {
+    let (name, rest) = after.split_at(symbol_len(after));
+    if !has_symbol_form(name) {
         return None;
     }
-    let (name, rest) = after.split_at(len);
     Some(Named { name, rest })
 }

@@ -1,2 +1,4 @@
 pub mod DistinctNames
+pub mod NamedEntries
 pub mod NumberTexts
+pub mod SymbolTests

@@ -1,6 +1,6 @@
 -- Numbers in decimal: what std's printer writes, and what the digits tell.
 use Rattle.std.proofs.Common.{◌≡◌, ℕ, zero, suc, ◌<◌, ◌^◌, List, [], ◌∷◌, length, get_or, ℤ, pos, negsuc, refl, sym, ◌∙◌, ap, arith, rules, FitsSigned, w64, to_z, of_z}
-use Rattle.std.specs.Prelude.{nat_le, Bool, true, ◌&&◌}
+use Rattle.std.specs.Prelude.{true}
 use Rattle.std.specs.List.{list_all}
 use Rattle.std.specs.Fmt.{decimal, signed_decimal}
 use Rattle.std.specs.Int.Signed.{mag}
@@ -16,7 +16,7 @@ use Rattle.std.proofs.lemmas.Fmt.{PrependsLastDigit, decimal_from_prepends, leng
 use Rattle.std.proofs.lemmas.Int.{to_z-of_z}
 use Rattle.std.proofs.lemmas.List.{append-nil, nil_from_length}
 use Rattle.std.proofs.lemmas.Str.Parse.{IsNumeralModel, numerals_by_value}
-use Rattle.scheme_data.specs.Decimal.{digits_onto, decimal_text, number_text}
+use Rattle.scheme_data.specs.Decimal.{is_digit, digits_onto, decimal_text, number_text}
 
 prepends_digits : PrependsLastDigit digits_onto
 prepends_digits = search rules
@@ -39,13 +39,10 @@ decimal_text_injective m n small_m small_n same = decimal_injective m n small_m 
 pub number_text_injective : (y z : ℤ) → mag y < 2 ^ 63 → mag z < 2 ^ 63 → number_text y ≡ number_text z → y ≡ z
 number_text_injective y z small_y small_z same = signed_decimal_injective y z small_y small_z (sym (number_text-signed_decimal y small_y) ∙ same ∙ number_text-signed_decimal z small_z)
 
-abbrev pub is_digit_byte : ℕ → Bool
-is_digit_byte b = nat_le 48 b && nat_le b 57
+digit_models : IsNumeralModel (λ ds. list_all is_digit ds ≡ true) (digits_value 10)
+digit_models = numerals_by_value (λ ds. list_all is_digit ds ≡ true) (search rules)
 
-digit_models : IsNumeralModel (λ ds. list_all is_digit_byte ds ≡ true) (digits_value 10)
-digit_models = numerals_by_value (λ ds. list_all is_digit_byte ds ≡ true) (search rules)
-
-pub digits-decimal_text : (n : ℕ) → n < 2 ^ 64 → list_all is_digit_byte (decimal_text n) ≡ true
+pub digits-decimal_text : (n : ℕ) → n < 2 ^ 64 → list_all is_digit (decimal_text n) ≡ true
 digits-decimal_text n small = rw (decimal_text-decimal n small) (digits_decimal digit_models n small)
 
 -- one digit or more, of which the first is 0 only where it is alone
@@ -53,13 +50,13 @@ pub record IsNumeralText (text : List ℕ) : Type 0 where
   pub first : ℕ
   pub others : List ℕ
   pub parts : text ≡ first ∷ others
-  pub first_is_digit : is_digit_byte first ≡ true
-  pub others_are_digits : list_all is_digit_byte others ≡ true
+  pub first_is_digit : is_digit first ≡ true
+  pub others_are_digits : list_all is_digit others ≡ true
   pub no_leading_zero : first ≡ 48 → others ≡ []
 
-numeral_of : (text : List ℕ) → 0 < length text → list_all is_digit_byte text ≡ true → (get_or text 0 0 ≡ 48 → length text ≡ 1) → IsNumeralText text
+numeral_of : (text : List ℕ) → 0 < length text → list_all is_digit text ≡ true → (get_or text 0 0 ≡ 48 → length text ≡ 1) → IsNumeralText text
 numeral_of [] some digits zero_alone = absurd (omega arith)
-numeral_of (d ∷ ds) some digits zero_alone = record { first = d; others = ds; parts = refl; first_is_digit = (and_parts (is_digit_byte d) (list_all is_digit_byte ds) digits).0; others_are_digits = (and_parts (is_digit_byte d) (list_all is_digit_byte ds) digits).1; no_leading_zero = λ zero. nil_from_length ds (omega (arith, zero_alone zero)) }
+numeral_of (d ∷ ds) some digits zero_alone = record { first = d; others = ds; parts = refl; first_is_digit = (and_parts (is_digit d) (list_all is_digit ds) digits).0; others_are_digits = (and_parts (is_digit d) (list_all is_digit ds) digits).1; no_leading_zero = λ zero. nil_from_length ds (omega (arith, zero_alone zero)) }
 
 first_zero : (n : ℕ) → n < 2 ^ 64 → get_or (decimal n) 0 0 ≡ 48 → length (decimal n) ≡ 1
 first_zero zero small first = ap length (decimal_digit 0 (omega arith))

@@ -1,6 +1,6 @@
 ghost use Rattle.std.specs.Prelude.{◌≡◌, ◌++◌, ℤ, OnOk, OnErr, MatchOption, Some, IsTrue, ◌↔◌};
 ghost use Rattle.scheme_data.specs.Fixnum.{IsFixnum};
-ghost use Rattle.scheme_data.specs.Decimal.{number_text};
+ghost use Rattle.scheme_data.specs.Decimal.{decimal_text, number_text};
 
 use crate::fixnum::is_in_range;
 use crate::{OutOfMemory, Text};
@@ -26,6 +26,13 @@ impl NumberText {
     {
         self.buffer.format(n).as_bytes()
     }
+
+    /// A number from 0 on in decimal.
+    pub fn format_unsigned(&mut self, n: u64) -> &[u8]
+        ensures { result.now ≡ decimal_text n }
+    {
+        self.buffer.format(n).as_bytes()
+    }
 }
 
 /// Adds a number in decimal at the end.
@@ -35,6 +42,15 @@ pub fn push_number(text: &mut Text, n: i64) -> Result<(), OutOfMemory>
 {
     let mut room = NumberText::new();
     text.extend(room.format(n))
+}
+
+/// Adds a number from 0 on in decimal at the end.
+pub fn push_decimal(text: &mut Text, n: u64) -> Result<(), OutOfMemory>
+    ensures ok { OnOk result (text.new ≡ text.old ++ decimal_text n) }
+    ensures err { OnErr result (text.new ≡ text.old) }
+{
+    let mut room = NumberText::new();
+    text.extend(room.format_unsigned(n))
 }
 
 // The only fixnum of which the bytes can be the spelling.

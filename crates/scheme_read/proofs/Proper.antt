@@ -1,12 +1,13 @@
 -- What is read is proper: each token is, and so is what is made of them.
-use Rattle.std.proofs.Common.{◌≡◌, ℕ, zero, suc, ℤ, ◌+◌, ◌<◌, ◌≤◌, Bool, true, false, ◌&&◌, if◌then◌else◌, nat_eq, nat_le, List, [], ◌∷◌, ◌++◌, length, take, get_or, Option, Some, None, Result, Ok, Err, IfOk, IsTrue, refl, sym, subst, ◌∙◌, codes, arith}
+use Rattle.std.proofs.Common.{◌≡◌, ℕ, zero, suc, ℤ, ◌+◌, ◌<◌, Bool, true, false, ◌&&◌, if◌then◌else◌, nat_eq, List, [], ◌∷◌, ◌++◌, take, get_or, Option, Some, None, Result, Ok, Err, IfOk, IsTrue, refl, sym, subst, ◌∙◌, codes, arith}
 use Rattle.std.proofs.Math.Numerals.{one-add}
 use Rattle.std.proofs.lemmas.Bool.Decides.{nat_tests}
 use Rattle.std.proofs.lemmas.List.Folds.{list_all-append}
 use Rattle.std.specs.List.{prefix_len, take_while, list_all}
 use Rattle.scheme_data.specs.Data.{Plain, Plains, Number, Character, Truth, Unspecified, String, Symbol, Listed, Dotted, Vector, none, more, plain, plain_all, is_byte, AreSome, IsProper, AreProper}
 use Rattle.scheme_data.specs.Fixnum.{is_fixnum}
-use Rattle.scheme_data.specs.Symbols.{IsSymbol, is_symbol_byte}
+use Rattle.scheme_data.specs.Symbols.{IsSymbol, is_symbol_byte, is_dot, has_symbol_form}
+use Rattle.scheme_data.proofs.SymbolTests.{symbol_of_form}
 use Rattle.scheme_data.specs.declared.datum.Place.{Place}
 use Rattle.scheme_data.specs.declared.datum.Datum.{Datum}
 use Rattle.scheme_data.specs.declared.datum.Datum.TheVariants as datum
@@ -23,7 +24,7 @@ use Rattle.scheme_tokens.specs.Lexemes.{lexeme, mark_word}
 use Rattle.scheme_tokens.specs.Places.{after, start}
 use Rattle.scheme_tokens.specs.Strings.{escaped_byte, is_escaping, part, spelled_len, unescaped, string_of, string_lexeme}
 use Rattle.scheme_tokens.specs.Tokens.{token, emit, tokens_from}
-use Rattle.scheme_tokens.specs.Words.{is_space, is_dot, is_symbol, number_in, number_or_other, word_of}
+use Rattle.scheme_tokens.specs.Words.{is_space, number_in, number_or_other, word_of}
 use Rattle.scheme_read.specs.declared.error.ReadErr.{ReadErr}
 use Rattle.scheme_read.specs.Answers.{IsSource, Reads}
 use Rattle.scheme_read.specs.Grammar.{Phrase, Phrases, Simple, Parens, DottedParens, HashParens, Quoted, Nothing, Then, quoted, spell, spells, value, values}
@@ -108,17 +109,13 @@ proper_fixnum : (n : ℤ) (b : Bool) → is_fixnum n ≡ b → IsProperWord (if 
 proper_fixnum n true e = e
 proper_fixnum n false e = tt
 
-short_word : (n : ℕ) (t : Bool) → (nat_le n 255 && t) ≡ true → n ≤ 255
-short_word n t e = grind (arith, nat_tests)
-
-proper_symbol : (w : List ℕ) (b : Bool) → is_symbol w ≡ b → IsTrue (list_all is_symbol_byte w) → IsProperWord (if b then word.Atom (atom.Sym w) else word.Bad)
-proper_symbol [] true e h = absurd (cc)
-proper_symbol (b ∷ bs) true e h = record { some = omega arith; short = short_word (length (b ∷ bs)) _ e; bytes = h }
+proper_symbol : (w : List ℕ) (b : Bool) → has_symbol_form w ≡ b → IsTrue (list_all is_symbol_byte w) → IsProperWord (if b then word.Atom (atom.Sym w) else word.Bad)
+proper_symbol w true e h = symbol_of_form w e h
 proper_symbol w false e h = tt
 
-proper_dot : (w : List ℕ) (b : Bool) → IsTrue (list_all is_symbol_byte w) → IsProperWord (if b then word.Dot else (if is_symbol w then word.Atom (atom.Sym w) else word.Bad))
+proper_dot : (w : List ℕ) (b : Bool) → IsTrue (list_all is_symbol_byte w) → IsProperWord (if b then word.Dot else (if has_symbol_form w then word.Atom (atom.Sym w) else word.Bad))
 proper_dot w true h = tt
-proper_dot w false h = proper_symbol w (is_symbol w) refl h
+proper_dot w false h = proper_symbol w (has_symbol_form w) refl h
 
 proper_or : (w : List ℕ) (o : Option ℤ) → IsTrue (list_all is_symbol_byte w) → IsProperWord (number_or_other w o)
 proper_or w None h = proper_dot w (is_dot w) h
@@ -250,7 +247,7 @@ proper_joined ds (Dotted es last) s h k = (some_append ds es s, proper_append ds
 proper_joined ds (Vector es) s h k = (s, h, tt, k)
 
 quote_is_name : IsSymbol (codes "quote")
-quote_is_name = record { some = omega arith; short = omega arith; bytes = refl }
+quote_is_name = record { some = omega arith; short = omega arith; bytes = refl; front = refl }
 
 proper_quoted : (at : Place) (d : Datum) → IsProper (plain d) → IsProper (plain (quoted at d))
 proper_quoted at d h =

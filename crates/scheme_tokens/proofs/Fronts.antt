@@ -3,7 +3,7 @@ use Rattle.std.proofs.Common.{◌≡◌, ℕ, ℤ, ◌+◌, ◌-◌, ◌<◌, �
 use Rattle.std.proofs.Math.Numerals.{one-add}
 use Rattle.std.proofs.lemmas.List.{take_all, length-drop}
 use Rattle.std.specs.List.{prefix_len, take_while}
-use Rattle.scheme_data.specs.Symbols.{is_symbol_byte}
+use Rattle.scheme_data.specs.Symbols.{is_symbol_byte, is_dot, has_symbol_form}
 use Rattle.scheme_data.specs.declared.text.OutOfMemory.{OutOfMemory}
 use Rattle.scheme_tokens.specs.declared.lex.Lexeme.{Lexeme}
 use Rattle.scheme_tokens.specs.declared.lex.Lexeme.TheVariants as lexed
@@ -14,7 +14,7 @@ use Rattle.scheme_tokens.specs.Comments.{not_newline}
 use Rattle.scheme_tokens.specs.Hashes.{constant_word, character_word, character_lexeme, block_lexeme, hash_lexeme}
 use Rattle.scheme_tokens.specs.Lexemes.{lexeme, mark_word}
 use Rattle.scheme_tokens.specs.Strings.{string_of, string_lexeme, spelled_len, unescaped}
-use Rattle.scheme_tokens.specs.Words.{is_space, is_dot, is_symbol, number_in, number_word, no_number, number_or_other, word_of}
+use Rattle.scheme_tokens.specs.Words.{is_space, number_in, number_word, no_number, number_or_other, word_of}
 
 -- `&bytes[i..]`
 pub rest_is : (i : ℕ) (bytes : List ℕ) → take (length bytes - i) (drop i bytes) ≡ drop i bytes
@@ -37,20 +37,20 @@ other_than_number w (Some n) e = absurd (cc)
 pub is_the_dot : (w : List ℕ) → None ≡ number_word (number_in w) → is_dot w ≡ true → word.Dot ≡ word_of w
 unfolding word_of
 is_the_dot w e d =
-    sym (ap (λ (t : Bool). if t then word.Dot else (if is_symbol w then word.Atom (atom.Sym w) else word.Bad)) d) ∙ other_than_number w (number_in w) e
+    sym (ap (λ (t : Bool). if t then word.Dot else (if has_symbol_form w then word.Atom (atom.Sym w) else word.Bad)) d) ∙ other_than_number w (number_in w) e
 
-pub is_name : (w v : List ℕ) → None ≡ number_word (number_in w) → is_dot w ≡ false → is_symbol w ≡ true → v ≡ w → word.Atom (atom.Sym v) ≡ word_of w
+pub is_name : (w v : List ℕ) → None ≡ number_word (number_in w) → is_dot w ≡ false → has_symbol_form w ≡ true → v ≡ w → word.Atom (atom.Sym v) ≡ word_of w
 unfolding word_of
 is_name w v e d s h =
     ap (λ v. word.Atom (atom.Sym v)) h
     ∙ sym (ap (λ (t : Bool). if t then word.Atom (atom.Sym w) else word.Bad) s)
-    ∙ sym (ap (λ (t : Bool). if t then word.Dot else (if is_symbol w then word.Atom (atom.Sym w) else word.Bad)) d) ∙ other_than_number w (number_in w) e
+    ∙ sym (ap (λ (t : Bool). if t then word.Dot else (if has_symbol_form w then word.Atom (atom.Sym w) else word.Bad)) d) ∙ other_than_number w (number_in w) e
 
-pub is_bad : (w : List ℕ) → None ≡ number_word (number_in w) → is_dot w ≡ false → is_symbol w ≡ false → word.Bad ≡ word_of w
+pub is_bad : (w : List ℕ) → None ≡ number_word (number_in w) → is_dot w ≡ false → has_symbol_form w ≡ false → word.Bad ≡ word_of w
 unfolding word_of
 is_bad w e d s =
     sym (ap (λ (t : Bool). if t then word.Atom (atom.Sym w) else word.Bad) s)
-    ∙ sym (ap (λ (t : Bool). if t then word.Dot else (if is_symbol w then word.Atom (atom.Sym w) else word.Bad)) d) ∙ other_than_number w (number_in w) e
+    ∙ sym (ap (λ (t : Bool). if t then word.Dot else (if has_symbol_form w then word.Atom (atom.Sym w) else word.Bad)) d) ∙ other_than_number w (number_in w) e
 
 -- Strings.
 

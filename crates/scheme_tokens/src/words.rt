@@ -1,11 +1,10 @@
 // A run of symbol bytes is a number, a symbol, a dot, or none of these.
 ghost use Rattle.std.specs.Prelude.{◌≡◌, ◌≤◌, pos, IfOk};
-ghost use Rattle.scheme_tokens.specs.Words.{is_sign_or_dot, begins_with_digit, is_dot, is_symbol, negative, number_in, fixnum_or_bad, number_word, word_of};
+ghost use Rattle.scheme_tokens.specs.Words.{negative, number_in, fixnum_or_bad, number_word, word_of};
 ghost use Rattle.scheme_tokens.specs.Digits.{capped_digits};
 
-use crate::bytes::digit;
 use crate::token::{Atom, Word};
-use scheme_data::{OutOfMemory, Text};
+use scheme_data::{OutOfMemory, Text, has_symbol_form, is_digit, is_dot};
 use std::alloc::Global;
 
 /// The least number that is no fixnum, with either sign.
@@ -20,7 +19,7 @@ fn digits(text: &[u8]) -> Option<u64>
     }
     let mut n: u64 = 0;
     for b in text {
-        if !digit(*b) {
+        if !is_digit(*b) {
             return None;
         }
         n = (10 * n + u64::from(*b - b'0')).min(BEYOND);
@@ -67,36 +66,6 @@ fn number(text: &[u8]) -> Option<Word>
     }
 }
 
-fn sign_or_dot(b: u8) -> bool
-    ensures { result ≡ is_sign_or_dot b }
-{
-    b == b'+' || b == b'-' || b == b'.'
-}
-
-fn digit_first(text: &[u8]) -> bool
-    ensures { result ≡ begins_with_digit text.now }
-{
-    match text {
-        [] => false,
-        [b, ..] => digit(*b),
-    }
-}
-
-fn symbol(text: &[u8]) -> bool
-    ensures { result ≡ is_symbol text.now }
-{
-    let [first, rest @ ..] = text else {
-        return false;
-    };
-    text.len() <= 255 && !digit(*first) && !(sign_or_dot(*first) && digit_first(rest))
-}
-
-fn dot(text: &[u8]) -> bool
-    ensures { result ≡ is_dot text.now }
-{
-    text == b".".as_slice()
-}
-
 /// What a run of symbol bytes is.
 pub fn read_word(alloc: Global, text: &[u8]) -> Result<Word, OutOfMemory>
     ensures { IfOk result (λ w. w ≡ word_of text.now) }
@@ -104,10 +73,10 @@ pub fn read_word(alloc: Global, text: &[u8]) -> Result<Word, OutOfMemory>
     if let Some(word) = number(text) {
         return Ok(word);
     }
-    if dot(text) {
+    if is_dot(text) {
         return Ok(Word::Dot);
     }
-    if symbol(text) {
+    if has_symbol_form(text) {
         return Ok(Word::Atom(Atom::Sym(Text::from_bytes(alloc, text)?)));
     }
     Ok(Word::Bad)

@@ -202,7 +202,7 @@ faithful_so others body items functions distinct found translated =
     let m = below others body in
     let is : IsProgram (m ∷ []) = record {
       formed = (
-        record { name = record { some = omega arith; short = omega arith; bytes = refl }; imports = tt; functions = functions; forms = tt; distinct = distinct; uses = tt; once = refl; ordered = refl; rows = tt; exported = refl; main = ap (takes_as_many 1) found },
+        record { name = record { some = omega arith; short = omega arith; bytes = refl; front = refl }; imports = tt; functions = functions; forms = tt; distinct = distinct; uses = tt; once = refl; ordered = refl; rows = tt; exported = refl; main = ap (takes_as_many 1) found },
         tt,
       );
       distinct = refl;

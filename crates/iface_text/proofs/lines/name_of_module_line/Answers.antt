@@ -12,15 +12,15 @@ pub returns-in_err-name-clause-none : goal.returns-in_err-name-clause-none
 returns-in_err-name-clause-none c =
     rw c.from_residual.ensures (module_line_none c.args.line.now (λ name _ e. strip_prefix_is Decides-eqb c.args.line.now (codes "module ") None c.in_err-name.ensures.cases name e))
 
-pub returns-then-not-is_name-clause-none : goal.returns-then-not-is_name-clause-none
-returns-then-not-is_name-clause-none c =
+pub returns-then-not-is_symbol-clause-none : goal.returns-then-not-is_symbol-clause-none
+returns-then-not-is_symbol-clause-none c =
     let e : c.args.line.now ≡ codes "module " ++ c.in_ok-name.name.now = strip_prefix_is Decides-eqb c.args.line.now (codes "module ") (Some c.in_ok-name.name) c.in_ok-name.ensures.cases in
     module_line_none c.args.line.now (λ name h f.
     let same : name ≡ c.in_ok-name.name.now = append_cancel_left (codes "module ") name c.in_ok-name.name.now (sym f ∙ e) in
-    let q : false ≡ true = c.if-not-is_name.ensures.1 (subst IsSymbol same h) in
+    let q : false ≡ true = c.if-not-is_symbol.ensures.meaning.1 (subst IsSymbol same h) in
     absurd (cc))
 
 pub returns-clause-some : goal.returns-clause-some
 returns-clause-some c =
     let e : c.args.line.now ≡ codes "module " ++ c.in_ok-name.name.now = strip_prefix_is Decides-eqb c.args.line.now (codes "module ") (Some c.in_ok-name.name) c.in_ok-name.ensures.cases in
-    ap module_line_name e ∙ module_line_name_is c.in_ok-name.name.now (c.if-not-is_name.ensures.0 refl)
+    ap module_line_name e ∙ module_line_name_is c.in_ok-name.name.now (c.if-not-is_symbol.ensures.meaning.0 refl)

@@ -2,16 +2,21 @@ use Rattle.std.proofs.Common.{◌≡◌, None, Some, false, true}
 use Rattle.std.specs.Prelude.{codes}
 use Rattle.std.proofs.lemmas.Bool.Decides.{Decides-eqb}
 use Rattle.std.proofs.lemmas.Slice.Eq.{strip_prefix_is, strip_suffix_is}
-use Rattle.iface_text.proofs.RowParts.{first_cut, no_name, no_bracket, no_result, no_types, row_found}
+use Rattle.iface_text.proofs.RowParts.{first_cut, no_blank, no_name, no_bracket, no_result, no_types, row_found}
 use Rattle.iface_text.proofs.lines.parts_of_row.Goals as goal
 
-pub returns-then-not-is_name-clause-none : goal.returns-then-not-is_name-clause-none
-returns-then-not-is_name-clause-none c =
+pub returns-in_err-cut-clause-none : goal.returns-in_err-cut-clause-none
+returns-in_err-cut-clause-none c =
+    let e = strip_prefix_is Decides-eqb c.args.line.now (codes "fun ") (Some c.in_ok-strip_prefix.field-0) c.in_ok-strip_prefix.ensures.cases in
+    rw c.from_residual-in_err-cut.ensures (no_blank c.args.line.now c.in_ok-strip_prefix.field-0.now e c.in_err-cut.ensures.none)
+
+pub returns-then-not-is_symbol-clause-none : goal.returns-then-not-is_symbol-clause-none
+returns-then-not-is_symbol-clause-none c =
     let cut = c.in_ok-cut.cut in
     let e = strip_prefix_is Decides-eqb c.args.line.now (codes "fun ") (Some c.in_ok-strip_prefix.field-0) c.in_ok-strip_prefix.ensures.cases in
     no_name c.args.line.now cut.before.now cut.after.now
     (first_cut _ c.in_ok-strip_prefix.field-0.now _ _ e c.in_ok-cut.ensures.some c.in_ok-cut.ensures.before)
-    (λ h. let q : false ≡ true = c.if-not-is_name.ensures.1 h in absurd (cc))
+    (λ h. let q : false ≡ true = c.if-not-is_symbol.ensures.meaning.1 h in absurd (cc))
 
 pub returns-in_err-strip_prefix-2-clause-none : goal.returns-in_err-strip_prefix-2-clause-none
 returns-in_err-strip_prefix-2-clause-none c =

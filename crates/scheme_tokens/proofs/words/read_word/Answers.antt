@@ -5,13 +5,13 @@ use Rattle.scheme_tokens.proofs.words.read_word.Goals as goal
 pub returns-in-Some : goal.returns-in-Some
 returns-in-Some c = is_number c.args.text.now c.in-Some.word c.in-Some.ensures
 
-pub returns-then-dot : goal.returns-then-dot
-returns-then-dot c = is_the_dot c.args.text.now (sym c.in_default.is ∙ c.number.ensures) (sym c.dot.ensures ∙ c.if-dot.true)
+pub returns-then-is_dot : goal.returns-then-is_dot
+returns-then-is_dot c = is_the_dot c.args.text.now (sym c.in_default.is ∙ c.number.ensures) (sym c.is_dot.ensures ∙ c.if-is_dot.true)
 
-pub returns-then-symbol : goal.returns-then-symbol
-returns-then-symbol c =
-    is_name c.args.text.now c.in_ok-from_bytes.field-0 (sym c.in_default.is ∙ c.number.ensures) (sym c.dot.ensures ∙ c.if-dot.false) (sym c.symbol.ensures ∙ c.if-symbol.true) c.in_ok-from_bytes.ensures
+pub returns-then-has_symbol_form : goal.returns-then-has_symbol_form
+returns-then-has_symbol_form c =
+    is_name c.args.text.now c.in_ok-from_bytes.field-0 (sym c.in_default.is ∙ c.number.ensures) (sym c.is_dot.ensures ∙ c.if-is_dot.false) (sym c.has_symbol_form.ensures ∙ c.if-has_symbol_form.true) c.in_ok-from_bytes.ensures
 
 pub returns : goal.returns
 returns c =
-    is_bad c.args.text.now (sym c.in_default.is ∙ c.number.ensures) (sym c.dot.ensures ∙ c.if-dot.false) (sym c.symbol.ensures ∙ c.if-symbol.false)
+    is_bad c.args.text.now (sym c.in_default.is ∙ c.number.ensures) (sym c.is_dot.ensures ∙ c.if-is_dot.false) (sym c.has_symbol_form.ensures ∙ c.if-has_symbol_form.false)
