@@ -1,6 +1,8 @@
 -- Which objects are linked, and to what; which are refused, and for what.
 use Rattle.std.specs.Prelude.{◌≡◌, ◌⊎◌, ℕ, suc, List, [], ◌∷◌, map, find, filter, length, nat_eq, nat_lt, Bool, true, false, not, ◌&&◌, if◌then◌else◌, Option, Some, None, Result, Ok, Err}
-use Rattle.std.specs.List.{list_all}
+use Rattle.std.specs.List.{list_all, AllZip}
+use Rattle.std.specs.Option.{option_or}
+use Rattle.std.specs.Cmp.Lexicographic.{pointwise}
 use Rattle.scheme_data.specs.Names.{are_distinct, is_same}
 use Rattle.built_table.specs.declared.primitives.Ty.{Ty}
 use Rattle.built_table.specs.declared.primitives.Ty.TheVariants.{Obj, Long, Bool as Truth}
@@ -43,9 +45,7 @@ same_type Truth Truth = true
 same_type _ _ = false
 
 abbrev pub same_types : List Ty → List Ty → Bool
-same_types [] [] = true
-same_types (t ∷ ts) (u ∷ us) = same_type t u && same_types ts us
-same_types _ _ = false
+same_types ts us = pointwise same_type ts us
 
 -- one signature
 abbrev pub same_kind : RowKind → RowKind → Bool
@@ -61,14 +61,10 @@ are_current os = list_all (λ o. list_all (λ u. agrees (row_of u) (current_row 
 
 -- Refusals ----------------------------------------------------------------------------------
 
-abbrev pub or_else : Option LinkErr → Option LinkErr → Option LinkErr
-or_else None later = later
-or_else (Some e) later = Some e
-
 -- the first object that is refused decides; objects are numbered from 1
 abbrev pub first_refused : (ℕ → ObjectTree → Option LinkErr) → ℕ → List ObjectTree → Option LinkErr
 first_refused refusal n [] = None
-first_refused refusal n (o ∷ os) = or_else (refusal n o) (first_refused refusal (suc n) os)
+first_refused refusal n (o ∷ os) = option_or (refusal n o) (first_refused refusal (suc n) os)
 
 -- the first import item whose module no object has, where these are the modules' names
 abbrev pub missing_module : List (List ℕ) → ℕ → List ImportItem → Option LinkErr
@@ -103,15 +99,13 @@ unless false = Some NotBuilt
 
 -- why objects aren't linked, the first cause in this order: they are too many or have a name twice; a module is missing; a name is missing; a use is of another signature; none has a main function, or more than one has
 abbrev pub link_refusal : List ObjectTree → Option LinkErr
-link_refusal os = or_else (unless (are_modules os)) (or_else (missing_modules os) (or_else (missing_names os) (or_else (unless (are_current os)) (unless (has_one_main os)))))
+link_refusal os = option_or (unless (are_modules os)) (option_or (missing_modules os) (option_or (missing_names os) (option_or (unless (are_current os)) (unless (has_one_main os)))))
 
 -- Links -------------------------------------------------------------------------------------
 
 -- the texts are those of these objects
 abbrev pub AreObjectTexts : List (List ℕ) → List ObjectTree → Type 0
-AreObjectTexts [] [] = Unit {0}
-AreObjectTexts (text ∷ texts) (o ∷ os) = ObjectText text o × AreObjectTexts texts os
-AreObjectTexts _ _ = ⊥
+AreObjectTexts texts os = AllZip ObjectText texts os
 
 -- and of no others
 pub record AreObjects (texts : List (List ℕ)) (os : List ObjectTree) : Type 0 where

@@ -14,7 +14,7 @@ use Rattle.session.specs.declared.errors.MakeErr.{MakeErr}
 use Rattle.session.specs.declared.errors.MakeErr.TheVariants as make
 use Rattle.session.specs.declared.errors.WorkErr.{WorkErr}
 use Rattle.session.specs.Halts.{work_of_make, work_of_run}
-use Rattle.session.specs.Outside.{PutAll}
+use Rattle.base_io.specs.Writing.{PutAll}
 use Rattle.session.specs.Works.{IsProgramText, TextRuns, NotRun, last_line, no_input}
 use Rattle.session.specs.Done.{HasTree, ProgramRead, Loaded, RanTo, TextRan}
 

@@ -33,9 +33,3 @@ ReadAll (Some files) names (Ok texts) = (missing files names ≡ None) × (texts
 ReadAll (Some files) names (Err (read.NoFile n)) = missing files names ≡ Some n
 ReadAll (Some files) names (Err (read.FileFault n)) = Contains names n
 ReadAll (Some files) names (Err read.Memory) = Unit {0}
-
--- all bytes were written, or a part of them
-abbrev pub PutAll : {E : Type 0} → Option Bytes → Option Bytes → Bytes → Result (Unit {0}) E → Type 0
-PutAll None new bytes result = Unit {0}
-PutAll (Some old) new bytes (Ok done) = new ≡ Some (old ++ bytes)
-PutAll (Some old) new bytes (Err e) = (added : Bytes) × ((rest : Bytes) × (bytes ≡ added ++ rest) × (new ≡ Some (old ++ added)))

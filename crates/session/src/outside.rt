@@ -1,11 +1,11 @@
 // One call on a handed-in object at a time.
-ghost use Rattle.std.specs.Prelude.{◌≡◌, ◌≤◌, length, IfOk, IsErrOf, OnErr};
+ghost use Rattle.std.specs.Prelude.{◌≡◌, ◌≤◌, length, IfOk, IsErrOf};
 ghost use Rattle.base_io.specs.Causes.{Rose};
 ghost use Rattle.base_io.specs.Contents.{Bytes};
-ghost use Rattle.session.specs.Outside.{ReadAll, ReadOne, WroteOne, PutAll};
+ghost use Rattle.session.specs.Outside.{ReadAll, ReadOne, WroteOne};
 
 use crate::errors::{ReadErr, WriteErr};
-use base_io::{Failed, FileErr, Files, Found, Sink};
+use base_io::{FileErr, Files, Found};
 use scheme_data::{Text, TextList};
 use std::alloc::Global;
 
@@ -58,18 +58,4 @@ pub fn read_all<F: Files>(alloc: Global, files: &mut F, names: &[Text]) -> Resul
         texts.push(read_one(alloc, files, name)?)?;
     }
     Ok(texts)
-}
-
-/// Writes all of the bytes, or a part of them where the sink fails.
-pub fn put_all<K: Sink>(out: &mut K, bytes: &[u8]) -> Result<(), Failed>
-    ensures told { PutAll (K.written out.old) (K.written out.new) bytes.now result }
-    ensures later { K.faults out.old ≤ K.faults out.new }
-    ensures fault { OnErr result (Rose (K.faults out.old) (K.faults out.new)) }
-{
-    let mut rest = bytes;
-    while !rest.is_empty() {
-        let count = out.put(rest)?;
-        rest = &rest[count..];
-    }
-    Ok(())
 }

@@ -1,11 +1,11 @@
 // What the program says of its answer: a status and one line.
-ghost use Rattle.std.specs.Prelude.{◌≡◌, ◌++◌, codes, IfOk, OnOk};
+ghost use Rattle.std.specs.Prelude.{◌≡◌, ◌++◌, codes, IfOk};
 ghost use Rattle.scheme_data.specs.Decimal.{decimal_text};
 ghost use Rattle.session.specs.Messages.{status_of, end_status, message_of, line_words, refusal_words};
 
 use crate::answer::{Answer, Refusal};
 use base_io::End;
-use scheme_data::{LimitKind, OutOfMemory, Place, Text, push_number};
+use scheme_data::{LimitKind, OutOfMemory, Place, Text, push_decimal};
 use std::alloc::Global;
 
 fn status_of_end(end: &End) -> u8
@@ -38,18 +38,6 @@ pub fn status(answer: &Answer) -> u8
         Answer::Refused(_, _) => 247,
         Answer::Memory => 248,
     }
-}
-
-// A number in decimal, of which the first digits are those of a tenth where it is too large for them all.
-fn push_decimal(text: &mut Text, n: u64) -> Result<(), OutOfMemory>
-    ensures { OnOk result (text.new ≡ text.old ++ decimal_text n) }
-{
-    if n < 9223372036854775808 {
-        return push_number(text, n as i64);
-    }
-    push_number(text, (n / 10) as i64)?;
-    text.push(48 + (n % 10) as u8)?;
-    Ok(())
 }
 
 fn line_text(alloc: Global, number: u64, rest: &[u8]) -> Result<Text, OutOfMemory>

@@ -4,14 +4,13 @@ ghost use Rattle.base_io.specs.Causes.{Rose};
 ghost use Rattle.base_io.specs.Contents.{Bytes};
 ghost use Rattle.c_tree.specs.Functions.{items_of};
 ghost use Rattle.c_meaning.specs.Program.{cm};
-ghost use Rattle.session.specs.Outside.{PutAll};
+ghost use Rattle.base_io.specs.Writing.{PutAll};
 ghost use Rattle.session.specs.Works.{error_line, last_line, no_input};
 ghost use Rattle.session.specs.Done.{ProgramRead, Loaded, RanTo, TextRan};
 
 use crate::answer::Refusal;
 use crate::errors::{MakeErr, WorkErr};
-use crate::outside::put_all;
-use base_io::{End, Failed, RunErr, Sink};
+use base_io::{End, Failed, RunErr, Sink, put_all};
 use c_check::{CheckErr, check};
 use c_machine::Machine;
 use c_read::{CReadErr, read_c};
@@ -46,9 +45,9 @@ fn error_text(alloc: Global, code: u8, text: &Text) -> Result<Text, OutOfMemory>
 {
     let mut line = Text::from_bytes(alloc, b"error ")?;
     push_number(&mut line, code as i64)?;
-    line.push(32)?;
+    line.push(b' ')?;
     line.extend(text.as_bytes())?;
-    line.push(10)?;
+    line.push(b'\n')?;
     Ok(line)
 }
 

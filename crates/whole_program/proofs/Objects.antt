@@ -23,7 +23,8 @@ use Rattle.unit_compile.specs.Compilation.{IsObjectOf}
 use Rattle.linker.specs.declared.linking.LinkErr.{LinkErr}
 use Rattle.linker.specs.declared.linking.LinkErr.TheVariants.{MissingModule}
 use Rattle.linker.specs.Links as links
-use Rattle.linker.specs.Links.{names_of, object_named, exported_row, current_row, same_type, same_types, same_kind, agrees, are_current, or_else, first_refused, missing_module, missing_modules, missing_names, are_modules, has_one_main, most_modules, unless, link_refusal, part_of}
+use Rattle.std.specs.Option.{option_or}
+use Rattle.linker.specs.Links.{names_of, object_named, exported_row, current_row, same_type, same_types, same_kind, agrees, are_current, first_refused, missing_module, missing_modules, missing_names, are_modules, has_one_main, most_modules, unless, link_refusal, part_of}
 use Rattle.linker.proofs.Refused.{one_main}
 use Rattle.whole_program.proofs.Members.{each_of, each_to, only_passing}
 use Rattle.whole_program.proofs.Rows.{HasRow, named, interface_in}
@@ -141,7 +142,7 @@ current ifaces u e = go (row_for ifaces (module_of u) (row_of u).name) refl e
 
 -- Links -------------------------------------------------------------------------------------
 
-both_none : (a b : Option LinkErr) → or_else a b ≡ None → (a ≡ None) × (b ≡ None)
+both_none : (a b : Option LinkErr) → option_or a b ≡ None → (a ≡ None) × (b ≡ None)
 both_none None b e = (refl, e)
 both_none (Some x) b e = absurd (cc)
 
@@ -157,9 +158,9 @@ record AreAccepted (os : List ObjectTree) : Type 0 where
 
 accepted : (os : List ObjectTree) → link_refusal os ≡ None → AreAccepted os
 accepted os e =
-    let first = both_none (unless (are_modules os)) (or_else (missing_modules os) (or_else (missing_names os) (or_else (unless (are_current os)) (unless (has_one_main os))))) e in
-    let second = both_none (missing_modules os) (or_else (missing_names os) (or_else (unless (are_current os)) (unless (has_one_main os)))) first.1 in
-    let third = both_none (missing_names os) (or_else (unless (are_current os)) (unless (has_one_main os))) second.1 in
+    let first = both_none (unless (are_modules os)) (option_or (missing_modules os) (option_or (missing_names os) (option_or (unless (are_current os)) (unless (has_one_main os))))) e in
+    let second = both_none (missing_modules os) (option_or (missing_names os) (option_or (unless (are_current os)) (unless (has_one_main os)))) first.1 in
+    let third = both_none (missing_names os) (option_or (unless (are_current os)) (unless (has_one_main os))) second.1 in
     let fourth = both_none (unless (are_current os)) (unless (has_one_main os)) third.1 in
     record {
       distinct = (and_parts (not (nat_lt most_modules (length os))) (are_distinct (names_of os)) (unless_none (are_modules os) first.0)).1;

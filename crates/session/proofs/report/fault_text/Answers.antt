@@ -1,7 +1,7 @@
 use Rattle.std.proofs.Common.{[], ◌∷◌, codes}
 use Rattle.scheme_data.specs.Decimal.{decimal_text}
 use Rattle.session.specs.Messages.{line_words}
-use Rattle.session.proofs.Putting.{five_pieces}
+use Rattle.session.proofs.Pieces.{five_pieces}
 use Rattle.session.proofs.report.fault_text.Goals as goal
 
 pub returns : goal.returns
