@@ -1,3 +1,4 @@
 pub mod Consumed
 pub mod Entries
 pub mod Names
+pub mod Putting

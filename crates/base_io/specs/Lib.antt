@@ -2,3 +2,4 @@ pub mod Causes
 pub mod Contents
 pub mod Memory
 pub mod Observation
+pub mod Writing

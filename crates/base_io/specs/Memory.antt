@@ -1,8 +1,7 @@
 -- What a source, a sink and files in memory are.
-use Rattle.std.specs.Prelude.{ℕ, ◌+◌, ◌-◌, ◌^◌, List, [], ◌∷◌, Result, Ok, Err, min, refl}
+use Rattle.std.specs.Prelude.{ℕ, ◌+◌, ◌-◌, ◌^◌, List, Result, Ok, Err, min, refl}
 use Rattle.std.specs.Coded.{Coded, code_by, coded×, coded_list, coded_ℕ}
 use Rattle.std.specs.FinMap as map
-use Rattle.std.specs.Global.{Vec}
 use Rattle.base_io.specs.Contents.{Bytes, Contents}
 use Rattle.base_io.specs.declared.files.FileErr.{FileErr}
 use Rattle.base_io.specs.declared.files.FileErr.TheVariants.{Failed, Memory}
@@ -43,8 +42,3 @@ abbrev pub file_faults : {T : Type 0} → Result T FileErr → ℕ → ℕ
 file_faults (Ok x) n = n
 file_faults (Err Failed) n = next n
 file_faults (Err Memory) n = n
-
--- a table's entries, with each key as the bytes that it holds
-abbrev pub named : List (Vec ℕ × Bytes) → List (Bytes × Bytes)
-named [] = []
-named (e ∷ es) = (e.0.items, e.1) ∷ named es

@@ -13,7 +13,7 @@ pub use end::{End, Ends, FaultKind, RunErr};
 pub use files::{FileErr, Files, Found};
 pub use mem_files::MemFiles;
 pub use mem_stream::{MemSink, MemSource};
-pub use stream::{Failed, Sink, Source};
+pub use stream::{Failed, Sink, Source, put_all};
 
 #[cfg(test)]
 mod tests;

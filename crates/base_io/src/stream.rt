@@ -1,7 +1,8 @@
-ghost use Rattle.std.specs.Prelude.{ℕ, ◌<◌, ◌≤◌, List, length, IfOk};
+ghost use Rattle.std.specs.Prelude.{ℕ, ◌<◌, ◌≤◌, List, length, IfOk, OnErr};
 ghost use Rattle.std.specs.declared.option.Option.{Option};
 ghost use Rattle.std.specs.Io.KnownBytes.{ReadConsumes, WriteAppends};
-ghost use Rattle.base_io.specs.Causes.{HasCause};
+ghost use Rattle.base_io.specs.Causes.{HasCause, Rose};
+ghost use Rattle.base_io.specs.Writing.{PutAll};
 
 use std::fmt;
 use thiserror::Error;
@@ -44,4 +45,18 @@ pub trait Sink {
         ensures most { IfOk result (λ count. count ≤ length bytes.now) }
         ensures bytes { WriteAppends (written self.old) (written self.new) result bytes.now }
         ensures cause { HasCause (faults self.old) (faults self.new) result };
+}
+
+/// Writes all of the bytes, or a part of them where the sink fails.
+pub fn put_all<K: Sink>(out: &mut K, bytes: &[u8]) -> Result<(), Failed>
+    ensures told { PutAll (K.written out.old) (K.written out.new) bytes.now result }
+    ensures later { K.faults out.old ≤ K.faults out.new }
+    ensures fault { OnErr result (Rose (K.faults out.old) (K.faults out.new)) }
+{
+    let mut rest = bytes;
+    while !rest.is_empty() {
+        let count = out.put(rest)?;
+        rest = &rest[count..];
+    }
+    Ok(())
 }

@@ -18,7 +18,7 @@ impl Model for Table {
     ghost use Rattle.std.specs.FinMap as map;
     ghost use Rattle.std.specs.Coded.{coded_list, coded_ℕ};
     ghost use Rattle.base_io.specs.Contents.{Contents};
-    ghost use Rattle.base_io.specs.Memory.{named};
+    ghost use Rattle.scheme_data.specs.Names.{named};
 
     ghost Value = { Contents };
 

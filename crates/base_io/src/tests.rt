@@ -1,7 +1,4 @@
-use crate::counts::Counts;
-use crate::{
-    End, Ends, FaultKind, FileErr, Files, Found, MemFiles, MemSink, MemSource, RunErr, Sink, Source,
-};
+use crate::{FileErr, Files, Found, MemFiles, MemSink, MemSource, Sink, Source, put_all};
 use scheme_data::{CallList, OutOfMemory, Text};
 use std::alloc::Global;
 
@@ -63,6 +60,10 @@ fn a_sink_takes_what_it_has_room_for_and_fails_when_full(
         assert!(rt; taken == want);
         assert_eq!(rt; sink.bytes(), written);
     }
+    let mut sink = MemSink::new(alloc, 3, CallList::new(alloc))?;
+    assert!(rt; put_all(&mut sink, b"ab").is_ok());
+    assert!(rt; put_all(&mut sink, b"cd").is_err());
+    assert_eq!(rt; sink.bytes(), b"abc".as_slice());
     Ok(())
 }
 
@@ -114,34 +115,5 @@ fn files_hold_the_newest_content_and_fail_at_the_listed_calls(
             Err(fault) => assert!(rt; error == Some(fault)),
         }
     }
-    Ok(())
-}
-
-#[test]
-fn the_listed_calls_are_counted_as_faults(rt: HostRuntime) -> Result<(), OutOfMemory> {
-    let alloc = rt.alloc();
-    let mut counts = Counts::new(call_list(alloc, &[4, 2, u64::MAX])?);
-    for (listed, faults) in [(false, 0), (true, 1), (false, 1), (true, 2), (false, 2)] {
-        assert!(rt; counts.fails_now() == listed);
-        assert_eq!(rt; counts.faults, faults);
-    }
-    counts.calls = u64::MAX - 1;
-    for faults in [3, 4] {
-        assert!(rt; counts.fails_now());
-        assert_eq!(rt; counts.calls, u64::MAX);
-        assert_eq!(rt; counts.faults, faults);
-    }
-    counts.faults = u64::MAX;
-    counts.fault();
-    assert_eq!(rt; counts.faults, u64::MAX);
-    Ok(())
-}
-
-#[test]
-fn want_of_memory_is_the_run_error_memory(rt: HostRuntime) -> Result<(), OutOfMemory> {
-    let mut ends = Ends::new(rt.alloc());
-    ends.push(End::Fault(FaultKind::Slot))?;
-    assert_eq!(rt; ends.len(), 1);
-    assert!(rt; RunErr::from(OutOfMemory) == RunErr::Memory);
     Ok(())
 }
