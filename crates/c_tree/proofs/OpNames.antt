@@ -1,7 +1,7 @@
 -- Names of operations, and primitives by their names.
 use Rattle.std.proofs.lemmas.List.{take-append-drop}
-use Rattle.std.proofs.Common.{◌≡◌, ℕ, ◌≤◌, List, [], ◌∷◌, ◌++◌, length, take, drop, map, find, cond, codes, Bool, true, false, Option, Some, None, nat_eq, refl, sym, ap, ◌∙◌}
-use Rattle.std.specs.Prelude.{IsTrue, nat_le, ◌&&◌, not}
+use Rattle.std.proofs.Common.{◌≡◌, ℕ, zero, suc, ◌<◌, ◌≤◌, List, [], ◌∷◌, ◌++◌, length, take, drop, map, find, cond, codes, Bool, true, false, Option, Some, None, nat_eq, refl, sym, ap, ◌∙◌, arith}
+use Rattle.std.specs.Prelude.{IsTrue, nat_le, ◌&&◌, ◌||◌, not, slice_index_or}
 use Rattle.std.specs.List.{list_all, list_any, filter_map, cons_option}
 use Rattle.std.specs.Option.{option_map}
 use Rattle.std.specs.Cmp.Lexicographic.{pointwise, same_text}
@@ -11,11 +11,11 @@ use Rattle.prim_table.specs.declared.primitives.Primitive.{Primitive as TablePri
 use Rattle.prim_table.specs.Table as table
 use Rattle.scheme_data.specs.Names.{is_same, are_distinct}
 use Rattle.built_table.specs.declared.primitives.Primitive.{Primitive}
-use Rattle.built_table.specs.declared.primitives.Primitive.TheVariants.{Add, Less, Display, Newline}
-use Rattle.built_table.specs.Table.{name_of, built, built_of, prim_named}
+use Rattle.built_table.proofs.BuiltList.{each_built}
+use Rattle.built_table.specs.Table.{primitives, name_of, built, built_of, prim_named}
 use Rattle.c_tree.specs.declared.op.Op.{Op}
 use Rattle.c_tree.specs.declared.op.Op.TheVariants.{BoxLong, BoxBool, UnboxLong, Truth, Raise, Args, Status, Primitive as Does}
-use Rattle.c_tree.specs.Operations.{op_text, is_op, primitives, operations, op_named}
+use Rattle.c_tree.specs.Operations.{op_text, is_op, operations, op_named}
 use Rattle.c_tree.specs.Names.{mangled, are_bytes}
 use Rattle.c_tree.proofs.CNames.{mangled_same}
 
@@ -150,12 +150,33 @@ pub op_named-is : (word : List ℕ) (op : Op) → op_named word ≡ Some op → 
 unfolding op_named
 op_named-is word op e = is_text word (op_text op) (found (is_op word) operations op e)
 
+name_among : (ps : List Primitive) (p : Primitive) (i : ℕ) → i < length ps → slice_index_or ps i p ≡ p → list_any (is_same (name_of p)) (map name_of ps) ≡ true
+name_among [] p i within is = absurd (omega arith)
+name_among (q ∷ qs) p zero within is = ap (λ b. b || list_any (is_same (name_of p)) (map name_of qs)) ((bytes_eq-Decides (name_of p) (name_of q)).1 (ap name_of (sym is)))
+name_among (q ∷ qs) p (suc i) within is = by (is_same (name_of p) (name_of q)) (name_among qs p i (omega arith) is)
+  where
+    by : (b : Bool) → list_any (is_same (name_of p)) (map name_of qs) ≡ true → (b || list_any (is_same (name_of p)) (map name_of qs)) ≡ true
+    by true there = refl
+    by false there = there
+
+-- of distinct names each finds its own primitive
+finds_own : (ps : List Primitive) (p : Primitive) (i : ℕ) → are_distinct (map name_of ps) ≡ true → i < length ps → slice_index_or ps i p ≡ p → find (λ q. pointwise nat_eq (name_of p) (name_of q)) ps ≡ Some p
+finds_own [] p i distinct within is = absurd (omega arith)
+finds_own (q ∷ qs) p zero distinct within is =
+    ap (λ b. cond b (Some q) (find (λ q. pointwise nat_eq (name_of p) (name_of q)) qs)) ((bytes_eq-Decides (name_of p) (name_of q)).1 (ap name_of (sym is))) ∙ ap Some is
+finds_own (q ∷ qs) p (suc i) distinct within is =
+    let d = and_parts (not (list_any (is_same (name_of q)) (map name_of qs))) (are_distinct (map name_of qs)) distinct in
+    by (pointwise nat_eq (name_of p) (name_of q)) refl d.0 (finds_own qs p i d.1 (omega arith) is)
+  where
+    by : (b : Bool) → pointwise nat_eq (name_of p) (name_of q) ≡ b → not (list_any (is_same (name_of q)) (map name_of qs)) ≡ true
+        → find (λ q. pointwise nat_eq (name_of p) (name_of q)) qs ≡ Some p → cond b (Some q) (find (λ q. pointwise nat_eq (name_of p) (name_of q)) qs) ≡ Some p
+    by true e other rest =
+        let there : list_any (is_same (name_of q)) (map name_of qs) ≡ true = ap (λ n. list_any (is_same n) (map name_of qs)) (sym (is_text (name_of p) (name_of q) e)) ∙ name_among qs p i (omega arith) is in
+        let none : false ≡ true = sym (ap not there) ∙ other in absurd (cc)
+    by false e other rest = rest
+
 named_again : (p : Primitive) → prim_named (name_of p) ≡ Some p
-unfolding prim_named table.prim_named
-named_again Add = refl
-named_again Less = refl
-named_again Display = refl
-named_again Newline = refl
+named_again p = sym (found_primitive (name_of p)) ∙ (let c = each_built p in finds_own primitives p c.0 refl c.1 c.2)
 
 pub op_named-op_text : (op : Op) → op_named (op_text op) ≡ Some op
 unfolding op_named

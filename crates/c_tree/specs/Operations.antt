@@ -4,9 +4,7 @@ use Rattle.std.specs.Cmp.Lexicographic.{pointwise}
 use Rattle.prim_table.specs.declared.types.Ty.{Ty}
 use Rattle.prim_table.specs.declared.types.Ty.TheVariants as types
 use Rattle.prim_table.specs.Table as table
-use Rattle.built_table.specs.declared.primitives.Primitive.{Primitive}
-use Rattle.built_table.specs.declared.primitives.Primitive.TheVariants.{Add, Less, Display, Newline}
-use Rattle.built_table.specs.Table.{in_table}
+use Rattle.built_table.specs.Table.{in_table, primitives}
 use Rattle.c_tree.specs.declared.tree.CTy.{CTy}
 use Rattle.c_tree.specs.declared.tree.CTy.TheVariants.{Obj, Long, Char, Int}
 use Rattle.c_tree.specs.declared.op.Wants.{Wants}
@@ -56,9 +54,6 @@ abbrev pub gives_of : Op → CTy
 gives_of op = (op_row op).gives
 
 -- Names -------------------------------------------------------------------------------------
-
-abbrev pub primitives : List Primitive
-primitives = Add ∷ Less ∷ Display ∷ Newline ∷ []
 
 abbrev pub operations : List Op
 operations = BoxLong ∷ BoxBool ∷ UnboxLong ∷ Truth ∷ Raise ∷ Args ∷ Status ∷ map Does primitives

@@ -1,7 +1,8 @@
 // Operations by their names.
 ghost use Rattle.std.specs.Prelude.{◌≡◌, map, find, nat_eq};
 ghost use Rattle.std.specs.Cmp.Lexicographic.{pointwise};
-ghost use Rattle.c_tree.specs.Operations.{is_op, primitives, op_named};
+ghost use Rattle.built_table.specs.Table.{primitives};
+ghost use Rattle.c_tree.specs.Operations.{is_op, op_named};
 
 use crate::op::Op;
 use crate::unmangling::unmangled;
