@@ -1,5 +1,5 @@
--- The part of the table of primitives that programs are built from so far: each of its primitives and types stands in the whole table, which tells the names.
-use Rattle.std.specs.Prelude.{ℕ, List, [], ◌∷◌, Bool, true, false, Option, Some, None}
+-- The part of the table of primitives that programs are built from so far. The whole table tells all of a primitive but its meaning.
+use Rattle.std.specs.Prelude.{ℕ, List, [], ◌∷◌, map, Bool, true, false, Option, Some, None}
 use Rattle.prim_table.specs.declared.types.Ty.{Ty as TableTy}
 use Rattle.prim_table.specs.declared.types.Ty.TheVariants as table_types
 use Rattle.prim_table.specs.declared.primitives.Primitive.{Primitive as TablePrimitive}
@@ -17,6 +17,12 @@ table_type Obj = table_types.Obj
 table_type Long = table_types.Long
 table_type Truth = table_types.Bool
 
+-- what a type of the table is built as: a value of any other is a word with its tag
+abbrev pub built_type : TableTy → Ty
+built_type table_types.Long = Long
+built_type table_types.Bool = Truth
+built_type _ = Obj
+
 -- the name of a type, as error texts spell it
 abbrev pub type_name : Ty → List ℕ
 type_name t = table.type_name (table_type t)
@@ -29,6 +35,9 @@ is_parameter_type Truth = false
 
 -- Primitives --------------------------------------------------------------------------------
 
+abbrev pub primitives : List Primitive
+primitives = Add ∷ Less ∷ Display ∷ Newline ∷ []
+
 abbrev pub in_table : Primitive → TablePrimitive
 in_table Add = table_primitives.Add
 in_table Less = table_primitives.Less
@@ -39,16 +48,10 @@ abbrev pub name_of : Primitive → List ℕ
 name_of p = table.name_of (in_table p)
 
 abbrev pub params_of : Primitive → List Ty
-params_of Add = Long ∷ Long ∷ []
-params_of Less = Long ∷ Long ∷ []
-params_of Display = Obj ∷ []
-params_of Newline = []
+params_of p = map built_type (table.params_of (in_table p))
 
 abbrev pub result_of : Primitive → Ty
-result_of Add = Long
-result_of Less = Truth
-result_of Display = Obj
-result_of Newline = Obj
+result_of p = built_type (table.result_of (in_table p))
 
 -- the primitive that stands in the table so, where it is built
 abbrev pub built : TablePrimitive → Option Primitive

@@ -4,6 +4,3 @@
 mod primitives;
 
 pub use primitives::{Primitive, Ty, prim_by_name};
-
-#[cfg(test)]
-mod tests;

@@ -1,6 +1,5 @@
-ghost use Rattle.std.specs.Prelude.{◌≡◌, Some, IfSome, length, map};
-ghost use Rattle.prim_table.specs.Table as table;
-ghost use Rattle.built_table.specs.Table.{table_type, type_name, in_table, name_of, params_of, result_of, built, prim_named};
+ghost use Rattle.std.specs.Prelude.{◌≡◌, Some, IfSome, length, slice_get};
+ghost use Rattle.built_table.specs.Table.{table_type, built_type, type_name, primitives, in_table, name_of, params_of, result_of, built, prim_named};
 
 use prim_table::prim_row;
 
@@ -13,6 +12,17 @@ pub enum Ty {
 }
 
 impl Ty {
+    /// What a type of the whole table is built as.
+    pub fn of_table(ty: prim_table::Ty) -> Ty
+        ensures { result ≡ built_type ty }
+    {
+        match ty {
+            prim_table::Ty::Long => Ty::Long,
+            prim_table::Ty::Bool => Ty::Bool,
+            _ => Ty::Obj,
+        }
+    }
+
     /// Its place in the whole table.
     pub fn in_table(self) -> prim_table::Ty
         ensures { result ≡ table_type self }
@@ -41,7 +51,21 @@ pub enum Primitive {
     Newline,
 }
 
+static PRIMITIVES: [Primitive; 4] = [
+    Primitive::Add,
+    Primitive::Less,
+    Primitive::Display,
+    Primitive::Newline,
+];
+
 impl Primitive {
+    /// All of them.
+    pub fn all() -> &'static [Primitive]
+        ensures { result.now ≡ primitives }
+    {
+        &PRIMITIVES
+    }
+
     /// The primitive that stands in the whole table so; none exactly where it isn't built.
     pub fn of_table(p: prim_table::Primitive) -> Option<Primitive>
         ensures value { result ≡ built p }
@@ -60,9 +84,6 @@ impl Primitive {
     pub fn in_table(self) -> prim_table::Primitive
         ensures place { result ≡ in_table self }
         ensures built { built result ≡ Some self }
-        // What it takes and gives here is what the table says.
-        ensures params { map table_type (params_of self) ≡ table.params_of result }
-        ensures gives { table_type (result_of self) ≡ table.result_of result }
     {
         match self {
             Primitive::Add => prim_table::Primitive::Add,
@@ -84,6 +105,22 @@ impl Primitive {
         ensures { result ≡ length (params_of self) }
     {
         prim_row(self.in_table()).count as usize
+    }
+
+    /// The type of an argument; none where it takes no more.
+    pub fn param(self, place: usize) -> Option<Ty>
+        ensures { result ≡ slice_get (params_of self) place }
+    {
+        let row = prim_row(self.in_table());
+        let ty = row.params[..row.count as usize].get(place)?;
+        Some(Ty::of_table(*ty))
+    }
+
+    /// The type of what it gives.
+    pub fn result(self) -> Ty
+        ensures { result ≡ result_of self }
+    {
+        Ty::of_table(prim_row(self.in_table()).result)
     }
 }
 

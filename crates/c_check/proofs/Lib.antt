@@ -5,6 +5,7 @@ pub mod Entries
 pub mod Flat
 pub mod Fresh
 pub mod Items
+pub mod Keys
 pub mod Rest
 pub mod SameTypes
 pub mod Tables

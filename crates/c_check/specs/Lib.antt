@@ -1,5 +1,6 @@
 pub mod Answers
 pub mod Entries
+pub mod Keys
 pub mod Names
 pub mod Once
 pub mod Programs

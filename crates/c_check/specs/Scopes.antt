@@ -7,7 +7,9 @@ use Rattle.c_tree.specs.declared.tree.CArg.{CArg}
 use Rattle.c_tree.specs.declared.tree.CStmt.{CStmt}
 use Rattle.c_tree.specs.declared.tree.CStmt.TheVariants as stmt
 use Rattle.c_tree.specs.declared.tree.CVar.{CVar}
-use Rattle.c_meaning.specs.Checked.{Signature, callable, variable_named, arguments_fit, wants_of, gives_of, assigned_fits, has_type, call_type, expr_fits}
+use Rattle.c_tree.specs.declared.op.Wants.{Wants}
+use Rattle.c_tree.specs.Operations.{wants_of, gives_of}
+use Rattle.c_meaning.specs.Checked.{Signature, callable, variable_named, argument_fits, arguments_fit, assigned_fits, has_type, call_type, expr_fits}
 use Rattle.c_check.specs.Roles.{role_as}
 use Rattle.c_check.specs.declared.scope.Scope.{Scope}
 
@@ -16,6 +18,10 @@ functions_of s = callable (role_as s.role) s.defined.now s.declared.now
 
 abbrev pub variables_of : Scope → List CVar
 variables_of s = s.variables
+
+abbrev pub operand_fits : List CVar → Option Wants → CArg → Bool
+operand_fits vars None a = false
+operand_fits vars (Some w) a = argument_fits vars w a
 
 -- the type of an operation's result, where its arguments fit
 abbrev pub operation_type : List CVar → Op → List CArg → Option CTy

@@ -4,9 +4,9 @@ ghost use Rattle.c_tree.specs.Functions.{item_of};
 ghost use Rattle.c_meaning.specs.Checked.{signature_of, signature_named, same_signature};
 ghost use Rattle.c_check.specs.Signatures.{signed, agrees_with, with_signature};
 
+use crate::named::Named;
 use crate::types::{same_type, same_types};
 use c_tree::{CItem, CTy, CVar};
-use indexmap::IndexMap;
 use scheme_data::{List, OutOfMemory};
 use std::alloc::Global;
 use std::marker::Model;
@@ -22,7 +22,7 @@ pub struct Shape {
 #[derive(Drop)]
 pub struct Declared {
     alloc: Global,
-    shapes: IndexMap<Vec<u8>, Shape>,
+    shapes: Named<Shape>,
 }
 
 impl Model for Declared {
@@ -32,7 +32,7 @@ impl Model for Declared {
 
     ghost Value = { List Signature };
 
-    ghost view = { λ d. signatures_of_entries d.shapes.entries };
+    ghost view = { λ d. signatures_of_entries d.shapes };
 }
 
 fn copied(alloc: Global, types: &[CTy]) -> Result<List<CTy>, OutOfMemory>
@@ -95,7 +95,7 @@ impl Declared {
     {
         Declared {
             alloc,
-            shapes: IndexMap::new(alloc),
+            shapes: Named::new(alloc),
         }
     }
 
@@ -110,8 +110,7 @@ impl Declared {
         requires { signature_named self.old name.now ≡ None }
         ensures { OnOk result (self.new ≡ self.old ++ signed name.now shape ∷ []) }
     {
-        let key = Vec::from_slice(self.alloc, name)?;
-        self.shapes.insert(key, shape)?;
+        self.shapes.add(name, shape)?;
         Ok(())
     }
 

@@ -4,6 +4,7 @@
 mod checking;
 mod declared;
 mod functions;
+mod named;
 mod once;
 mod program;
 mod role;
@@ -13,6 +14,3 @@ mod types;
 mod variables;
 
 pub use checking::{CheckErr, Checked, check};
-
-#[cfg(test)]
-mod tests;

@@ -1,16 +1,17 @@
-ghost use Rattle.std.specs.Prelude.{◌≡◌, [], map, option_copied};
+ghost use Rattle.std.specs.Prelude.{◌≡◌, map, option_copied, slice_get};
 ghost use Rattle.std.specs.Option.{option_map};
 ghost use Rattle.std.specs.List.{list_all};
-ghost use Rattle.c_meaning.specs.Checked.{same_type, AType, AnError, AText, wants_of, gives_of, atom_fits, argument_fits, arguments_fit, signature_named, call_fits_signature, call_type, expr_fits, assigned_fits, variable_named};
+ghost use Rattle.c_tree.specs.declared.op.Wants.TheVariants.{AType};
+ghost use Rattle.c_tree.specs.Operations.{wants_of};
+ghost use Rattle.c_meaning.specs.Checked.{atom_fits, argument_fits, arguments_fit, signature_named, call_fits_signature, call_type, expr_fits, assigned_fits, variable_named};
 ghost use Rattle.c_check.specs.Signatures.{signed};
-ghost use Rattle.c_check.specs.Scopes.{functions_of, variables_of, operation_type, statement_fits};
+ghost use Rattle.c_check.specs.Scopes.{functions_of, variables_of, operand_fits, operation_type, statement_fits};
 
 use crate::declared::{Declared, Shape};
 use crate::role::Role;
 use crate::types::{is_error, is_the_type, number_fits, same_type};
 use crate::variables::Variables;
-use built_table::Primitive;
-use c_tree::{CArg, CAtom, CCall, CExpr, CStmt, CTy, Callee, Op};
+use c_tree::{CArg, CAtom, CCall, CExpr, CStmt, CTy, Callee, Op, Wants};
 use name_table::NameTable;
 
 /// What the statements of a function with a role may name.
@@ -20,48 +21,6 @@ pub struct Scope<'a> {
     pub defined: &'a NameTable,
     pub declared: &'a Declared,
     pub variables: Variables,
-}
-
-fn is_error_number(arg: &CArg) -> bool
-    ensures { result ≡ argument_fits [] AnError arg.now }
-{
-    match arg {
-        CArg::Atom(CAtom::Int(n)) => is_error(*n),
-        _ => false,
-    }
-}
-
-fn is_text(arg: &CArg) -> bool
-    ensures { result ≡ argument_fits [] AText arg.now }
-{
-    match arg {
-        CArg::Str(_) => true,
-        CArg::Atom(_) => false,
-    }
-}
-
-fn raise_fits(args: &[CArg]) -> bool
-    ensures { result ≡ arguments_fit [] (wants_of Op.Raise) args.now }
-{
-    args.len() == 2 && is_error_number(&args[0]) && is_text(&args[1])
-}
-
-fn gives_of(op: Op) -> CTy
-    ensures { result ≡ gives_of op }
-{
-    match op {
-        Op::BoxLong => CTy::Obj,
-        Op::BoxBool => CTy::Obj,
-        Op::UnboxLong => CTy::Long,
-        Op::Truth => CTy::Int,
-        Op::Raise => CTy::Int,
-        Op::Args => CTy::Obj,
-        Op::Status => CTy::Int,
-        Op::Primitive(Primitive::Add) => CTy::Long,
-        Op::Primitive(Primitive::Less) => CTy::Int,
-        Op::Primitive(Primitive::Display) => CTy::Obj,
-        Op::Primitive(Primitive::Newline) => CTy::Obj,
-    }
 }
 
 impl<'a> Scope<'a> {
@@ -79,12 +38,14 @@ impl<'a> Scope<'a> {
         }
     }
 
-    fn argument_fits(&self, t: CTy, arg: &CArg) -> bool
-        ensures { result ≡ argument_fits (variables_of self.now) (AType t) arg.now }
+    fn argument_fits(&self, wants: Wants, arg: &CArg) -> bool
+        ensures { result ≡ argument_fits (variables_of self.now) wants arg.now }
     {
-        match arg {
-            CArg::Atom(atom) => self.atom_fits(atom, t),
-            CArg::Str(_) => false,
+        match (wants, arg) {
+            (Wants::AType(t), CArg::Atom(atom)) => self.atom_fits(atom, t),
+            (Wants::AnError, CArg::Atom(CAtom::Int(n))) => is_error(*n),
+            (Wants::AText, CArg::Str(_)) => true,
+            _ => false,
         }
     }
 
@@ -95,29 +56,35 @@ impl<'a> Scope<'a> {
             return false;
         }
         for i in 0..args.len() {
-            if !self.argument_fits(types[i], &args[i]) {
+            if !self.argument_fits(Wants::AType(types[i]), &args[i]) {
                 return false;
             }
         }
         true
     }
 
+    // Whether an argument is what an operation wants at a place.
+    fn operand_fits(&self, op: Op, place: usize, arg: &CArg) -> bool
+        ensures { result ≡ operand_fits (variables_of self.now) (slice_get (wants_of op) place) arg.now }
+    {
+        match op.wants(place) {
+            None => false,
+            Some(wants) => self.argument_fits(wants, arg),
+        }
+    }
+
     fn operation_fits(&self, op: Op, args: &[CArg]) -> bool
         ensures { result ≡ arguments_fit (variables_of self.now) (wants_of op) args.now }
     {
-        match op {
-            Op::BoxLong => self.arguments_fit(&[CTy::Long], args),
-            Op::BoxBool => self.arguments_fit(&[CTy::Int], args),
-            Op::UnboxLong => self.arguments_fit(&[CTy::Obj], args),
-            Op::Truth => self.arguments_fit(&[CTy::Obj], args),
-            Op::Raise => raise_fits(args),
-            Op::Args => self.arguments_fit(&[], args),
-            Op::Status => self.arguments_fit(&[CTy::Obj], args),
-            Op::Primitive(Primitive::Add) => self.arguments_fit(&[CTy::Long, CTy::Long], args),
-            Op::Primitive(Primitive::Less) => self.arguments_fit(&[CTy::Long, CTy::Long], args),
-            Op::Primitive(Primitive::Display) => self.arguments_fit(&[CTy::Obj], args),
-            Op::Primitive(Primitive::Newline) => self.arguments_fit(&[], args),
+        if op.arity() != args.len() {
+            return false;
         }
+        for place in 0..args.len() {
+            if !self.operand_fits(op, place, &args[place]) {
+                return false;
+            }
+        }
+        true
     }
 
     // The types of a function that may be called.
@@ -152,7 +119,7 @@ impl<'a> Scope<'a> {
         ensures { result ≡ operation_type (variables_of self.now) op args.now }
     {
         if self.operation_fits(op, args) {
-            Some(gives_of(op))
+            Some(op.gives())
         } else {
             None
         }

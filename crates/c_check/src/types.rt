@@ -1,8 +1,9 @@
 ghost use Rattle.std.specs.Prelude.{◌≡◌};
-ghost use Rattle.scheme_data.specs.Fixnum.{is_fixnum};
 ghost use Rattle.c_meaning.specs.Checked.{same_type, same_types, is_byte, number_fits, is_error, is_the_type};
 
 use c_tree::CTy;
+use prim_table::ErrCode;
+use scheme_data::is_in_range;
 
 pub fn same_type(a: CTy, b: CTy) -> bool
     ensures { result ≡ same_type a b }
@@ -31,18 +32,12 @@ fn is_byte(n: i64) -> bool
     0 <= n && n < 256
 }
 
-fn is_fixnum(n: i64) -> bool
-    ensures { result ≡ is_fixnum n }
-{
-    -1152921504606846976 <= n && n < 1152921504606846976
-}
-
 pub fn number_fits(n: i64, t: CTy) -> bool
     ensures { result ≡ number_fits n t }
 {
     match t {
         CTy::Obj => false,
-        CTy::Long => is_fixnum(n),
+        CTy::Long => is_in_range(n),
         CTy::Char => is_byte(n),
         CTy::Int => is_byte(n),
     }
@@ -51,5 +46,5 @@ pub fn number_fits(n: i64, t: CTy) -> bool
 pub fn is_error(n: i64) -> bool
     ensures { result ≡ is_error n }
 {
-    1 <= n && n <= 10
+    i64::from(ErrCode::WrongType.number()) <= n && n <= i64::from(ErrCode::ZeroDivisor.number())
 }

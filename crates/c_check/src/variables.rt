@@ -4,8 +4,8 @@ ghost use Rattle.c_meaning.specs.Checked.{variables_of};
 ghost use Rattle.c_check.specs.Names.{are_fresh};
 ghost use Rattle.c_check.specs.Variables.{has_variable, type_named, names_of, MakesVariables};
 
+use crate::named::Named;
 use c_tree::{CFun, CTy, CVar};
-use indexmap::IndexMap;
 use scheme_data::OutOfMemory;
 use std::alloc::Global;
 use std::marker::Model;
@@ -13,8 +13,7 @@ use std::marker::Model;
 /// Variables with distinct names, each found by its name.
 #[derive(Drop)]
 pub struct Variables {
-    alloc: Global,
-    types: IndexMap<Vec<u8>, CTy>,
+    types: Named<CTy>,
 }
 
 impl Model for Variables {
@@ -28,7 +27,7 @@ impl Model for Variables {
 
     ghost coded = { coded_list the_variable.the_row.coded };
 
-    ghost view = { λ v. variables_of_entries v.types.entries };
+    ghost view = { λ v. variables_of_entries v.types };
 }
 
 impl Variables {
@@ -36,8 +35,7 @@ impl Variables {
         ensures { result ≡ [] }
     {
         Variables {
-            alloc,
-            types: IndexMap::new(alloc),
+            types: Named::new(alloc),
         }
     }
 
@@ -67,11 +65,10 @@ impl Variables {
         ensures ok { IfOk result (λ added. added ≡ true → self.new ≡ self.old ++ var.now ∷ []) }
     {
         let name = var.name.as_bytes();
-        if self.types.contains_key(name) {
+        if self.types.contains(name) {
             return Ok(false);
         }
-        let key = Vec::from_slice(self.alloc, name)?;
-        self.types.insert(key, var.ty)?;
+        self.types.add(name, var.ty)?;
         Ok(true)
     }
 

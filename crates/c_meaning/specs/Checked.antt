@@ -3,9 +3,11 @@ use Rattle.std.specs.Prelude.{ℕ, List, [], ◌∷◌, ◌++◌, map, find, fil
 use Rattle.std.specs.List.{list_all, list_any}
 use Rattle.scheme_data.specs.Names.{is_same, are_distinct}
 use Rattle.scheme_data.specs.Fixnum.{is_fixnum}
-use Rattle.built_table.specs.declared.primitives.Primitive.TheVariants.{Add, Less, Display, Newline}
-use Rattle.c_tree.specs.declared.op.Op.{Op}
-use Rattle.c_tree.specs.declared.op.Op.TheVariants.{BoxLong, BoxBool, UnboxLong, Truth, Raise, Args, Status, Primitive as Does}
+use Rattle.prim_table.specs.Errors.{number_of}
+use Rattle.prim_table.specs.declared.errors.ErrCode.TheVariants.{WrongType, ZeroDivisor}
+use Rattle.c_tree.specs.declared.op.Wants.{Wants}
+use Rattle.c_tree.specs.declared.op.Wants.TheVariants.{AType, AnError, AText}
+use Rattle.c_tree.specs.Operations.{wants_of, gives_of}
 use Rattle.c_tree.specs.declared.tree.CTy.{CTy}
 use Rattle.c_tree.specs.declared.tree.CTy.TheVariants.{Obj, Long, Char, Int}
 use Rattle.c_tree.specs.declared.tree.CAtom.{CAtom}
@@ -80,40 +82,9 @@ atom_fits vars atom.Nil t = same_type t Obj
 atom_fits vars atom.Unspec t = same_type t Obj
 atom_fits vars atom.Eof t = same_type t Obj
 
--- what an operation asks of an argument: a C type, the number of an error, or a string
-pub data Wants : Type 0 where
-  AType : CTy → Wants
-  AnError : Wants
-  AText : Wants
-
-abbrev pub wants_of : Op → List Wants
-wants_of BoxLong = AType Long ∷ []
-wants_of BoxBool = AType Int ∷ []
-wants_of UnboxLong = AType Obj ∷ []
-wants_of Truth = AType Obj ∷ []
-wants_of Raise = AnError ∷ AText ∷ []
-wants_of Args = []
-wants_of Status = AType Obj ∷ []
-wants_of (Does Add) = AType Long ∷ AType Long ∷ []
-wants_of (Does Less) = AType Long ∷ AType Long ∷ []
-wants_of (Does Display) = AType Obj ∷ []
-wants_of (Does Newline) = []
-
-abbrev pub gives_of : Op → CTy
-gives_of BoxLong = Obj
-gives_of BoxBool = Obj
-gives_of UnboxLong = Long
-gives_of Truth = Int
-gives_of Raise = Int
-gives_of Args = Obj
-gives_of Status = Int
-gives_of (Does Add) = Long
-gives_of (Does Less) = Int
-gives_of (Does Display) = Obj
-gives_of (Does Newline) = Obj
-
+-- the numbers of errors are those from the first to the last
 abbrev pub is_error : ℤ → Bool
-is_error (pos n) = nat_le 1 n && nat_le n 10
+is_error (pos n) = nat_le (number_of WrongType) n && nat_le n (number_of ZeroDivisor)
 is_error (negsuc n) = false
 
 abbrev pub argument_fits : List CVar → Wants → CArg → Bool

@@ -13,13 +13,13 @@ pub data Word : Type 0 where
   Eof : Word
 
 -- the 64 bits of a word as a number
-abbrev pub number_of : Word → ℕ
-number_of (Fixnum n) = fixnum_word n
-number_of False = 3
-number_of True = 11
-number_of Nil = 19
-number_of Unspec = 27
-number_of Eof = 35
+abbrev pub bits_of : Word → ℕ
+bits_of (Fixnum n) = fixnum_word n
+bits_of False = 3
+bits_of True = 11
+bits_of Nil = 19
+bits_of Unspec = 27
+bits_of Eof = 35
 
 -- how `display` prints a word
 abbrev pub printed : Word → List ℕ

@@ -1,11 +1,10 @@
 -- The classes of words: what each spelling is read as, and what it isn't.
-use Rattle.std.proofs.Common.{◌≡◌, ℕ, ◌<◌, List, [], ◌∷◌, Bool, true, false, ◌&&◌, if◌then◌else◌, Some, None, refl, ap, ◌∙◌, codes, nat_eq, lit<, arith}
-use Rattle.std.specs.Prelude.{ℤ, pos, negsuc}
+use Rattle.std.proofs.Common.{◌≡◌, ℕ, ◌<◌, List, [], ◌∷◌, Bool, true, false, ◌&&◌, if◌then◌else◌, Some, None, refl, sym, ap, ◌∙◌, codes, nat_eq, lit<, arith}
+use Rattle.std.specs.Prelude.{ℤ, pos, negsuc, not}
 use Rattle.std.specs.Option.{is_some}
 use Rattle.std.proofs.lemmas.Bool.{ne_eqb}
 use Rattle.std.proofs.lemmas.Slice.Eq.{bytes_eq-Decides}
 use Rattle.scheme_data.specs.Decimal.{number_text}
-use Rattle.built_table.specs.declared.primitives.Primitive.TheVariants.{Add, Less, Display, Newline}
 use Rattle.c_tree.specs.declared.tree.CTy.{CTy}
 use Rattle.c_tree.specs.declared.tree.CTy.TheVariants as ty
 use Rattle.c_tree.specs.declared.tree.CAtom.{CAtom}
@@ -13,12 +12,12 @@ use Rattle.c_tree.specs.declared.tree.CAtom.TheVariants as atom
 use Rattle.c_tree.specs.declared.tree.Callee.{Callee}
 use Rattle.c_tree.specs.declared.tree.Callee.TheVariants as callee
 use Rattle.c_tree.specs.declared.op.Op.{Op}
-use Rattle.c_tree.specs.declared.op.Op.TheVariants.{BoxLong, BoxBool, UnboxLong, Truth, Raise, Args, Status, Primitive as Does}
 use Rattle.c_tree.specs.declared.tree.Token.{Token}
 use Rattle.c_tree.specs.declared.tree.Token.TheVariants.{Word, Mark}
 use Rattle.c_tree.specs.declared.pieces.Piece.{Piece}
 use Rattle.c_tree.specs.declared.pieces.Piece.TheVariants as piece
 use Rattle.c_tree.specs.Operations.{op_text, op_named}
+use Rattle.c_tree.proofs.OpNames.{every_operation, op_named-op_text}
 use Rattle.c_tree.specs.Names.{is_function_name, is_local_name, is_label_name, is_numeral}
 use Rattle.c_tree.specs.Spelling.{type_text, atom_text, callee_text, piece_tokens, pieces_tokens, NamedAtom, NamedCallee, NamedPiece, NamedPieces}
 use Rattle.c_read.specs.Words.{type_of, number_of, constant_of, or_number, atom_of, callee_of, is_text, is_return, is_if, is_else}
@@ -75,38 +74,18 @@ atom_of_text atom.Eof h = refl
 
 -- Callees -----------------------------------------------------------------------------------
 
-op_no_function : (op : Op) → is_function_name (op_text op) ≡ false
+op_no_function : (op : Op) → not (is_function_name (op_text op)) ≡ true
 unfolding is_function_name
-op_no_function BoxLong = refl
-op_no_function BoxBool = refl
-op_no_function UnboxLong = refl
-op_no_function Truth = refl
-op_no_function Raise = refl
-op_no_function Args = refl
-op_no_function Status = refl
-op_no_function (Does Add) = refl
-op_no_function (Does Less) = refl
-op_no_function (Does Display) = refl
-op_no_function (Does Newline) = refl
+op_no_function op = every_operation (λ o. not (is_function_name (op_text o))) refl op
 
-op_of_text : (op : Op) → op_named (op_text op) ≡ Some op
-unfolding op_named
-op_of_text BoxLong = refl
-op_of_text BoxBool = refl
-op_of_text UnboxLong = refl
-op_of_text Truth = refl
-op_of_text Raise = refl
-op_of_text Args = refl
-op_of_text Status = refl
-op_of_text (Does Add) = refl
-op_of_text (Does Less) = refl
-op_of_text (Does Display) = refl
-op_of_text (Does Newline) = refl
+not_true : (b : Bool) → not b ≡ true → b ≡ false
+not_true true e = sym e
+not_true false e = refl
 
 pub callee_of_text : (c : Callee) → NamedCallee c → callee_of (callee_text c) ≡ Some c
 unfolding callee_of
 callee_of_text (callee.Fun name) h = rw h refl
-callee_of_text (callee.Op op) h = rw (op_no_function op, op_of_text op) refl
+callee_of_text (callee.Op op) h = rw (not_true (is_function_name (op_text op)) (op_no_function op), op_named-op_text op) refl
 
 -- What a word isn't -------------------------------------------------------------------------
 
@@ -164,19 +143,12 @@ function_plain : (name : List ℕ) → is_function_name name ≡ true → Plain 
 unfolding is_function_name
 function_plain name h = plain is_function_name name (record { on_obj = refl; on_long = refl; on_char = refl; on_int = refl; on_return = refl; on_if = refl; on_else = refl }) h
 
+is_operation : List ℕ → Bool
+is_operation word = is_some (op_named word)
+
 op_plain : (op : Op) → Plain (op_text op)
-unfolding type_of
-op_plain BoxLong = record { no_type = refl; no_return = refl; no_if = refl; no_else = refl }
-op_plain BoxBool = record { no_type = refl; no_return = refl; no_if = refl; no_else = refl }
-op_plain UnboxLong = record { no_type = refl; no_return = refl; no_if = refl; no_else = refl }
-op_plain Truth = record { no_type = refl; no_return = refl; no_if = refl; no_else = refl }
-op_plain Raise = record { no_type = refl; no_return = refl; no_if = refl; no_else = refl }
-op_plain Args = record { no_type = refl; no_return = refl; no_if = refl; no_else = refl }
-op_plain Status = record { no_type = refl; no_return = refl; no_if = refl; no_else = refl }
-op_plain (Does Add) = record { no_type = refl; no_return = refl; no_if = refl; no_else = refl }
-op_plain (Does Less) = record { no_type = refl; no_return = refl; no_if = refl; no_else = refl }
-op_plain (Does Display) = record { no_type = refl; no_return = refl; no_if = refl; no_else = refl }
-op_plain (Does Newline) = record { no_type = refl; no_return = refl; no_if = refl; no_else = refl }
+unfolding op_named is_operation
+op_plain op = plain is_operation (op_text op) (record { on_obj = refl; on_long = refl; on_char = refl; on_int = refl; on_return = refl; on_if = refl; on_else = refl }) (ap is_some (op_named-op_text op))
 
 pub callee_plain : (c : Callee) → NamedCallee c → Plain (callee_text c)
 callee_plain (callee.Fun name) h = function_plain name h

@@ -11,6 +11,3 @@ mod skips;
 mod words;
 
 pub use read::{CReadErr, read_c, read_unit};
-
-#[cfg(test)]
-mod tests;

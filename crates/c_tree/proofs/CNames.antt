@@ -59,7 +59,7 @@ no_end b rest ds false e q = let digit : hex_digit (b / 16) ≡ 95 = cc in digit
 
 -- Texts -------------------------------------------------------------------------------------
 
-mangled_same : (m k : List ℕ) → mangled m ≡ mangled k → m ≡ k
+pub mangled_same : (m k : List ℕ) → mangled m ≡ mangled k → m ≡ k
 mangled_same [] [] e = refl
 mangled_same [] (b ∷ ds) e = absurd (not_empty b (mangled ds) (is_alphanumeric b) e)
 mangled_same (a ∷ cs) [] e = absurd (not_empty a (mangled cs) (is_alphanumeric a) (sym e))
@@ -67,6 +67,21 @@ mangled_same (a ∷ cs) (b ∷ ds) e =
     let h = heads a b (mangled cs) (mangled ds) (is_alphanumeric a) (is_alphanumeric b) refl refl e in
     let first : a ≡ b = h.0 in
     let others : cs ≡ ds = mangled_same cs ds h.1 in cc
+
+-- what stands behind the mangled front of a mangled text
+pub record Left (front whole rest : List ℕ) : Type 0 where
+  pub left : List ℕ
+  pub is : whole ≡ front ++ left
+  pub same : rest ≡ mangled left
+
+pub left_of : (front whole rest : List ℕ) → mangled front ++ rest ≡ mangled whole → Left front whole rest
+left_of [] whole rest e = record { left = whole; is = refl; same = e }
+left_of (a ∷ cs) [] rest e =
+    absurd (not_empty a (mangled cs ++ rest) (is_alphanumeric a) (sym e ∙ append_assoc (spelled (is_alphanumeric a) a) (mangled cs) rest))
+left_of (a ∷ cs) (b ∷ ds) rest e =
+    let h = heads a b (mangled cs ++ rest) (mangled ds) (is_alphanumeric a) (is_alphanumeric b) refl refl (sym (append_assoc (spelled (is_alphanumeric a) a) (mangled cs) rest) ∙ e) in
+    let l = left_of cs ds rest h.1 in
+    record { left = l.left; is = (λ i. sym h.0 i ∷ l.is i); same = l.same }
 
 -- two mangled texts, each ended by two underscores
 fronts : (m k xs ys : List ℕ) → mangled m ++ 95 ∷ 95 ∷ xs ≡ mangled k ++ 95 ∷ 95 ∷ ys → (m ≡ k) × (xs ≡ ys)

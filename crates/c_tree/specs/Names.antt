@@ -27,6 +27,9 @@ mangled_byte b = if is_alphanumeric b then b ∷ [] else 95 ∷ hex_digit (b / 1
 abbrev pub mangled : List ℕ → List ℕ
 mangled name = flat_map mangled_byte name
 
+abbrev pub are_bytes : List ℕ → Bool
+are_bytes name = list_all (λ b. nat_lt b 256) name
+
 -- function N of module M is `f_M__N`
 unfoldable pub function_name : List ℕ → List ℕ → List ℕ
 function_name m n = codes "f_" ++ mangled m ++ codes "__" ++ mangled n

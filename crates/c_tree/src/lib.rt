@@ -9,9 +9,11 @@ mod name_tests;
 mod name_texts;
 mod names;
 mod op;
+mod op_names;
 mod order;
 mod pieces;
 mod tree;
+mod unmangling;
 mod walk;
 
 pub use function::{CFun, CItem, CProgram, CUnit};
@@ -23,10 +25,8 @@ pub use name_texts::{
     function_name_text, initializer_name_text, label_name_text, local_name_text, maker_name_text,
 };
 pub use names::NameState;
-pub use op::{Op, op_by_name, op_name};
+pub use op::{Op, Wants};
+pub use op_names::op_by_name;
 pub use order::{lay_out, pieces_in};
 pub use pieces::{Piece, PieceRef};
 pub use tree::{CArg, CAtom, CBlock, CCall, CExpr, CStmt, CTy, CVar, Callee, Token};
-
-#[cfg(test)]
-mod tests;

@@ -6,7 +6,7 @@ use crate::name_tests::tells_alphanumeric;
 use scheme_data::{OutOfMemory, Text, push_number};
 use std::alloc::Global;
 
-fn hex_byte(n: u8) -> u8
+pub fn hex_byte(n: u8) -> u8
     requires { n < 16 }
     ensures { result ≡ hex_digit n }
 {
@@ -22,7 +22,7 @@ fn push_mangled_byte(text: &mut Text, byte: u8) -> Result<(), OutOfMemory>
     text.extend(&[b'_', hex_byte(byte / 16), hex_byte(byte % 16)])
 }
 
-fn push_mangled(text: &mut Text, name: &[u8]) -> Result<(), OutOfMemory>
+pub fn push_mangled(text: &mut Text, name: &[u8]) -> Result<(), OutOfMemory>
     ensures { OnOk result (text.new ≡ text.old ++ mangled name.now) }
 {
     for byte in name {

@@ -8,14 +8,13 @@ use Rattle.std.proofs.lemmas.Bool.Decides.{nat_tests}
 use Rattle.scheme_data.specs.Decimal.{number_text}
 use Rattle.scheme_data.specs.Fixnum.{IsFixnum}
 use Rattle.scheme_data.proofs.NumberTexts.{IsNumeralText, IsSignedText, number_text-IsSignedText, mag_fixnum}
-use Rattle.built_table.specs.declared.primitives.Primitive.TheVariants.{Add, Less, Display, Newline}
 use Rattle.c_tree.specs.declared.op.Op.{Op}
-use Rattle.c_tree.specs.declared.op.Op.TheVariants.{BoxLong, BoxBool, UnboxLong, Truth, Raise, Args, Status, Primitive as Does}
 use Rattle.c_tree.specs.declared.names.NameState.{NameState}
 use Rattle.c_tree.specs.declared.names.NameState.TheVariants.{First, FirstEscape, InModule, ModuleEscape, ModuleHex, Second, InName, NameEscape, NameHex, Wrong}
 use Rattle.c_tree.specs.Names.{is_digit, is_alphanumeric, is_hex, after_byte, after_bytes, is_end, is_module_end, is_of_module, is_module_function, is_maker, is_initializer, is_function_name, is_main, is_numeral, is_local_name, is_label_name}
 use Rattle.c_tree.specs.Operations.{op_text}
 use Rattle.c_tree.specs.Lexical.{is_word_byte}
+use Rattle.c_tree.proofs.OpNames.{every_operation}
 use Rattle.c_tree.specs.declared.tree.CTy.{CTy}
 use Rattle.c_tree.specs.declared.tree.CTy.TheVariants.{Obj, Long, Char, Int}
 use Rattle.c_tree.specs.Spelling.{type_text}
@@ -157,17 +156,7 @@ function_word word h =
     (λ l. or_cases (is_initializer word) (is_main word) (IsTrue (is_word word)) (λ e. run_word word (initializer_run word e)) (λ e. main_word word e) l) k) h
 
 pub op_word : (op : Op) → IsTrue (is_word (op_text op))
-op_word BoxLong = refl
-op_word BoxBool = refl
-op_word UnboxLong = refl
-op_word Truth = refl
-op_word Raise = refl
-op_word Args = refl
-op_word Status = refl
-op_word (Does Add) = refl
-op_word (Does Less) = refl
-op_word (Does Display) = refl
-op_word (Does Newline) = refl
+op_word op = every_operation (λ o. is_word (op_text o)) refl op
 
 pub type_word : (t : CTy) → IsTrue (is_word (type_text t))
 type_word Obj = refl

@@ -9,6 +9,3 @@ mod statement;
 mod write;
 
 pub use write::{write_c, write_unit};
-
-#[cfg(test)]
-mod tests;

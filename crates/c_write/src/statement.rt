@@ -1,17 +1,18 @@
 // Statements and what stands in them.
-ghost use Rattle.std.specs.Prelude.{◌∷◌, codes, OnOk, IsTrue};
+ghost use Rattle.std.specs.Prelude.{◌∷◌, OnOk, IsTrue, codes};
 ghost use Rattle.scheme_data.specs.Decimal.{number_text};
 ghost use Rattle.scheme_data.specs.Fixnum.{IsFixnum};
 ghost use Rattle.c_tree.specs.declared.tree.Token.TheVariants.{Word, Mark};
 ghost use Rattle.c_tree.specs.declared.pieces.Piece.TheVariants.{If, Loop};
 ghost use Rattle.c_tree.specs.Names.{is_label_name, is_local_name};
+ghost use Rattle.c_tree.specs.Operations.{op_text};
 ghost use Rattle.c_tree.specs.Pieces.{opening};
 ghost use Rattle.c_tree.specs.Spelling.{atom_text, argument_token, more_arguments, argument_tokens, callee_text, call_tokens, expr_tokens, piece_tokens, NamedAtom, NamedArgument, NamedArguments, NamedCallee, NamedCall, NamedExpr, NamedPiece};
 ghost use Rattle.c_write.specs.Adds.{Adds, anything, apart};
 
 use crate::put::{open_block, put_comma, put_end, put_mark, put_name, put_space, put_word};
 use crate::quote::put_string;
-use c_tree::{CArg, CAtom, CCall, CExpr, CStmt, Callee, op_name};
+use c_tree::{CArg, CAtom, CCall, CExpr, CStmt, Callee, Op};
 use scheme_data::{OutOfMemory, Text, push_number};
 
 fn put_number(out: &mut Text, n: i64) -> Result<(), OutOfMemory>
@@ -70,13 +71,20 @@ fn put_arguments(out: &mut Text, arguments: &[CArg]) -> Result<(), OutOfMemory>
     Ok(())
 }
 
+fn put_operation(out: &mut Text, op: Op) -> Result<(), OutOfMemory>
+    ensures { OnOk result (Adds anything apart out.old out.new (λ ts. Word (op_text op) ∷ ts)) }
+{
+    op.push_name(out)?;
+    Ok(())
+}
+
 fn put_callee(out: &mut Text, callee: &Callee) -> Result<(), OutOfMemory>
     requires { NamedCallee callee.now }
     ensures { OnOk result (Adds anything apart out.old out.new (λ ts. Word (callee_text callee.now) ∷ ts)) }
 {
     match callee {
         Callee::Fun(name) => put_name(out, name),
-        Callee::Op(op) => put_word(out, op_name(*op)),
+        Callee::Op(op) => put_operation(out, *op),
     }
 }
 

@@ -12,7 +12,6 @@ use Rattle.core_tree.specs.declared.tree.GlobalRef.TheVariants.{Own, Used}
 use Rattle.core_tree.specs.declared.tree.Use.{Use}
 use Rattle.core_tree.specs.declared.tree.Use.TheVariants.{From, Need}
 use Rattle.core_tree.specs.Tree.{FunctionTree, ModuleTree, Callee, own_callee, row_callee, found_own, found_use, callee_of, used_callees}
-use Rattle.core_tree.specs.WellFormed as formed
 use Rattle.core_tree.specs.WellFormed.{IsFunction, AreFunctions, AreUses, module_of, row_of, same_use, each_once, IsWellFormed}
 use Rattle.c_tree.specs.declared.tree.CTy.{CTy}
 use Rattle.c_tree.specs.declared.tree.CTy.TheVariants.{Obj}

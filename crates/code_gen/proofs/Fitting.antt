@@ -1,5 +1,5 @@
 -- Arguments that were evaluated are made to fit.
-use Rattle.std.proofs.Common.{◌≡◌, ℕ, zero, suc, ◌+◌, ◌<◌, ◌≤◌, List, [], ◌∷◌, ◌++◌, length, map, drop, get_or, refl, sym, ap, ◌∙◌, subst, arith, append_assoc, add-one}
+use Rattle.std.proofs.Common.{rules, ◌≡◌, ℕ, zero, suc, ◌+◌, ◌<◌, ◌≤◌, List, [], ◌∷◌, ◌++◌, length, map, drop, get_or, refl, sym, ap, ◌∙◌, subst, arith, append_assoc, add-one}
 use Rattle.std.proofs.Math.Seq.{drop-cons}
 use Rattle.std.proofs.lemmas.Bool.{and_parts}
 use Rattle.std.proofs.lemmas.List.{map-append, append-nil, drop_all}
@@ -8,7 +8,6 @@ use Rattle.std.specs.List.{list_all}
 use Rattle.built_table.specs.declared.primitives.Ty.{Ty}
 use Rattle.built_table.specs.declared.primitives.Ty.TheVariants as ty
 use Rattle.built_table.specs.declared.primitives.Primitive.{Primitive as Builtin}
-use Rattle.built_table.specs.declared.primitives.Primitive.TheVariants as builtin
 use Rattle.built_table.specs.Table.{params_of, is_parameter_type}
 use Rattle.core_tree.specs.declared.tree.Node.{Node}
 use Rattle.c_tree.specs.declared.op.Op.{Op}
@@ -94,10 +93,7 @@ parameter_at (t ∷ ts) zero d within all = (and_parts (is_parameter_type t) (li
 parameter_at (t ∷ ts) (suc i) d within all = parameter_at ts i d (omega arith) (and_parts (is_parameter_type t) (list_all is_parameter_type ts) all).1
 
 pub primitive_parameters : (p : Builtin) → AreParameters (params_of p)
-primitive_parameters builtin.Add = refl
-primitive_parameters builtin.Less = refl
-primitive_parameters builtin.Display = refl
-primitive_parameters builtin.Newline = refl
+primitive_parameters p = search rules
 
 pub object_parameters : (ns : List Node) → AreParameters (map (λ _. ty.Obj) ns)
 object_parameters [] = refl

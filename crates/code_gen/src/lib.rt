@@ -14,6 +14,3 @@ mod nodes;
 mod parts;
 
 pub use generate::generate_unit;
-
-#[cfg(test)]
-mod tests;

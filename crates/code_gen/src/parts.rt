@@ -1,14 +1,10 @@
 // What a representation, a primitive and a value are in C.
 ghost use Rattle.std.specs.Prelude.{◌≡◌, ◌∷◌, [], ◌++◌, pos, IfOk, map, Some};
-ghost use Rattle.prim_table.specs.Errors.{number_of};
 ghost use Rattle.built_table.specs.declared.primitives.Ty.TheVariants.{Obj};
 ghost use Rattle.built_table.specs.Table.{params_of, result_of};
 ghost use Rattle.c_tree.specs.Names.{local_name};
 ghost use Rattle.plan_rules.specs.declared.rep.Rep.TheVariants.{Obj as Word};
-ghost use Rattle.c_tree.specs.declared.op.Op.TheVariants.{Raise};
-ghost use Rattle.c_tree.specs.declared.tree.CAtom.TheVariants.{Int};
-ghost use Rattle.c_tree.specs.declared.tree.CArg.TheVariants.{Atom, Str};
-ghost use Rattle.plan_rules.specs.Representation.{truth_atom, rep_of, c_type_of, own_rep, constant_rep, constant_expr, condition, operation, raise_count, raise_type, local};
+ghost use Rattle.plan_rules.specs.Representation.{truth_atom, rep_of, c_type_of, own_rep, constant_rep, constant_expr, condition, operation, raise, raise_count, raise_type, local};
 
 use crate::emitter::Held;
 use built_table::{Primitive, Ty};
@@ -79,7 +75,7 @@ pub fn local_expr(alloc: Global, x: u32) -> Result<CExpr, OutOfMemory>
 
 // The call that raises an error with a text.
 fn raise(alloc: Global, error: ErrCode, text: Text) -> Result<CCall, OutOfMemory>
-    ensures { IfOk result (λ c. c ≡ operation Raise (Atom (Int (pos (number_of error))) ∷ Str text ∷ [])) }
+    ensures { IfOk result (λ c. c ≡ raise error text) }
 {
     let mut args = List::new(alloc);
     args.push(CArg::Atom(CAtom::Int(error.number() as i64)))?;
@@ -90,7 +86,7 @@ fn raise(alloc: Global, error: ErrCode, text: Text) -> Result<CCall, OutOfMemory
     })
 }
 
-/// The call that raises error 2, where so many arguments are wanted. A number past `i64` counts as want of memory.
+/// The call that raises the error of a number of arguments, where so many are wanted. A number past `i64` counts as want of memory.
 pub fn raise_count(alloc: Global, want: usize) -> Result<CCall, OutOfMemory>
     ensures { IfOk result (λ c. c ≡ raise_count want) }
 {
@@ -100,7 +96,7 @@ pub fn raise_count(alloc: Global, want: usize) -> Result<CCall, OutOfMemory>
     raise(alloc, ErrCode::ArgumentCount, text)
 }
 
-/// The call that raises error 1, where a type is wanted.
+/// The call that raises the error of a wrong type, where this one is wanted.
 pub fn raise_type(alloc: Global, ty: Ty) -> Result<CCall, OutOfMemory>
     ensures { IfOk result (λ c. c ≡ raise_type ty) }
 {

@@ -2,6 +2,8 @@
 use Rattle.std.specs.Prelude.{◌≡◌, ℕ, suc, List, [], ◌∷◌, map, nat_lt, pos, negsuc, Bool, IsTrue, Option, Some, None, if◌then◌else◌}
 use Rattle.std.specs.List.{list_all, flat_map}
 use Rattle.scheme_data.specs.Names.{are_distinct}
+use Rattle.prim_table.specs.Errors.{number_of}
+use Rattle.prim_table.specs.declared.errors.ErrCode.TheVariants.{DeadExit}
 use Rattle.base_io.specs.Observation.{Observation}
 use Rattle.base_io.specs.declared.end.End.TheVariants.{Ended, Raised, Spent}
 use Rattle.core_tree.specs.declared.tree.VarId.{VarId}
@@ -25,7 +27,7 @@ status_of Unspecified = 0
 -- an escape never leaves a program whose exits are all its own; it counts as a dead exit's
 abbrev pub observed : Outcome Value → Observation
 observed (Gives v s) = record { output = s.output; end = Ended (status_of v) }
-observed (Escapes x v s) = record { output = s.output; end = Raised 7 [] }
+observed (Escapes x v s) = record { output = s.output; end = Raised (number_of DeadExit) [] }
 observed (Raises c t s) = record { output = s.output; end = Raised c t }
 observed (Spends s) = record { output = s.output; end = Spent }
 

@@ -2,6 +2,8 @@
 use Rattle.std.specs.Prelude.{◌≡◌, [], ◌∷◌, ◌++◌, codes, None, Some, refl}
 use Rattle.scheme_data.specs.Decimal.{decimal_text}
 use Rattle.iface_text.specs.Lines.{untyped_row}
+use Rattle.prim_table.specs.Errors.{number_of}
+use Rattle.prim_table.specs.declared.errors.ErrCode.TheVariants.{WrongType}
 use Rattle.base_io.specs.declared.end.End.TheVariants.{Ended, Raised, Spent}
 use Rattle.core_tree.specs.declared.tree.GlobalRef.TheVariants.{Used}
 use Rattle.core_tree.specs.declared.tree.Use.TheVariants.{From}
@@ -85,6 +87,6 @@ failing =
       main = Some (codes "go");
     }
 
-an_error_in_a_form_ends_the_program : src (failing ∷ []) [] [] 9 ≡ observation (codes "7") (Raised 1 (codes "long"))
+an_error_in_a_form_ends_the_program : src (failing ∷ []) [] [] 9 ≡ observation (codes "7") (Raised (number_of WrongType) (codes "long"))
 unfolding src decimal_text
 an_error_in_a_form_ends_the_program = refl

@@ -2,6 +2,8 @@
 use Rattle.std.specs.Prelude.{◌≡◌, ℕ, List, [], ◌∷◌, ◌++◌, codes, pos, Bool, true, false, Some, refl}
 use Rattle.base_io.specs.declared.end.End.{End}
 use Rattle.base_io.specs.declared.end.End.TheVariants.{Ended, Raised, Spent}
+use Rattle.prim_table.specs.Errors.{number_of}
+use Rattle.prim_table.specs.declared.errors.ErrCode.TheVariants.{WrongType, ArgumentCount, Range}
 use Rattle.built_table.specs.declared.primitives.Primitive.TheVariants.{Add, Less, Display, Newline}
 use Rattle.core_tree.specs.declared.tree.Const.TheVariants.{Int, Bool as Truth}
 use Rattle.core_tree.specs.declared.tree.VarId.{VarId}
@@ -38,7 +40,7 @@ no_turn_is_left : src (program (more (shown (int 1)) none)) [] [] 0 ≡ observat
 unfolding src decimal_text
 no_turn_is_left = refl
 
-sum_leaves_range : src (program (more (shown (sum_of (int 1152921504606846975) (int 1))) none)) [] [] 1 ≡ observation [] (Raised 3 (codes "+"))
+sum_leaves_range : src (program (more (shown (sum_of (int 1152921504606846975) (int 1))) none)) [] [] 1 ≡ observation [] (Raised (number_of Range) (codes "+"))
 unfolding src decimal_text
 sum_leaves_range = refl
 
@@ -46,7 +48,7 @@ sum_in_range : src (program (more (shown (sum_of (int 1152921504606846974) (int 
 unfolding src decimal_text
 sum_in_range = refl
 
-arguments_come_before_their_types : src (program (more (sum_of (shown (int 1)) (shown (int 2))) none)) [] [] 1 ≡ observation (codes "12") (Raised 1 (codes "long"))
+arguments_come_before_their_types : src (program (more (sum_of (shown (int 1)) (shown (int 2))) none)) [] [] 1 ≡ observation (codes "12") (Raised (number_of WrongType) (codes "long"))
 unfolding src decimal_text
 arguments_come_before_their_types = refl
 
@@ -77,9 +79,9 @@ abbrev pub call_of : Trees → Tree
 call_of args = Call (Own 0) args
 
 -- `(define (f n) n)` and `(display (f))`
-wrong_number_is_error_2 : src (calling (function (codes "f") (x 0 ∷ []) (more (variable 0) none)) (more (shown (call_of none)) none)) [] [] 10 ≡ observation [] (Raised 2 (codes "1"))
+wrong_number_is_an_error : src (calling (function (codes "f") (x 0 ∷ []) (more (variable 0) none)) (more (shown (call_of none)) none)) [] [] 10 ≡ observation [] (Raised (number_of ArgumentCount) (codes "1"))
 unfolding src decimal_text
-wrong_number_is_error_2 = refl
+wrong_number_is_an_error = refl
 
 -- `(define (f a b) (display a) (newline) b)`: the arguments come first, left to right
 abbrev pub second_of : List ModuleTree
@@ -133,7 +135,7 @@ only_false_is_false : src (program (more (shown (If (int 0) (int 1) (int 2))) (m
 unfolding src decimal_text
 only_false_is_false = refl
 
-a_truth_value_is_no_number : src (program (more (shown (sum_of (int 1) (truth true))) none)) [] [] 1 ≡ observation [] (Raised 1 (codes "long"))
+a_truth_value_is_no_number : src (program (more (shown (sum_of (int 1) (truth true))) none)) [] [] 1 ≡ observation [] (Raised (number_of WrongType) (codes "long"))
 unfolding src decimal_text
 a_truth_value_is_no_number = refl
 
@@ -141,6 +143,6 @@ numbers_are_ordered : src (program (more (shown (less_than (int 1) (int 2))) (mo
 unfolding src decimal_text
 numbers_are_ordered = refl
 
-both_are_evaluated_before_a_type_is_tested : src (program (more (less_than (truth true) (shown (int 7))) none)) [] [] 1 ≡ observation (codes "7") (Raised 1 (codes "long"))
+both_are_evaluated_before_a_type_is_tested : src (program (more (less_than (truth true) (shown (int 7))) none)) [] [] 1 ≡ observation (codes "7") (Raised (number_of WrongType) (codes "long"))
 unfolding src decimal_text
 both_are_evaluated_before_a_type_is_tested = refl

@@ -12,6 +12,3 @@ pub use primitives::Primitive;
 pub use rows::{PrimRow, prim_row};
 pub use search::{extern_by_name, prim_by_name};
 pub use types::Ty;
-
-#[cfg(test)]
-mod tests;

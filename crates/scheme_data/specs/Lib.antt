@@ -1,3 +1,4 @@
+pub mod Constants
 pub mod Data
 pub mod Decimal
 pub mod Fixnum

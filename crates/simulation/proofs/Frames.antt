@@ -8,7 +8,7 @@ use Rattle.c_tree.specs.declared.tree.CVar.{CVar}
 use Rattle.c_meaning.specs.State.{Cell, Frame, put}
 use Rattle.c_meaning.specs.Execution.{Names, position_of}
 use Rattle.c_meaning.specs.Checked.{is_typed, variable_named}
-use Rattle.plan_rules.specs.Translation.{Name, In, Fresh, IsLocal, Place, into, back}
+use Rattle.plan_rules.specs.Translation.{Name, In, Fresh, IsLocal, Target, into, back}
 use Rattle.simulation.proofs.Names.{same_name, turned}
 
 abbrev pub names : List CVar → Names
@@ -48,18 +48,18 @@ kept_same vars live f = record { by = λ x i. refl }
 pub kept_on : (vars : List CVar) {live more : List Name} {f g h : Frame} → ((x : Name) → In x live → In x more) → Kept vars live f g → Kept vars more g h → Kept vars live f h
 kept_on vars sub k l = record { by = λ x i. l.by x (sub x i) ∙ k.by x i }
 
--- where a value may go: a local that isn't live
-pub record Target (vars : List CVar) (live : List Name) (x : Name) : Type 0 where
+-- a local that a value may go to: one that isn't live
+pub record Writable (vars : List CVar) (live : List Name) (x : Name) : Type 0 where
   pub fresh : Fresh x live
   pub type : CTy
   pub is_local : IsLocal vars x type
 
-abbrev pub Free : List CVar → List Name → Place → Type 0
-Free vars live (into x) = Target vars live x
+abbrev pub Free : List CVar → List Name → Target → Type 0
+Free vars live (into x) = Writable vars live x
 Free vars live back = Unit {0}
 
-pub kept_put : (vars : List CVar) (live : List Name) (x : Name) (c : Cell) (f : Frame) → Target vars live x → Kept vars live f (put (position_of x (names vars)) c f)
-kept_put vars live x c f target = record { by = λ y i. put_other (position_of x (names vars)) (position_of y (names vars)) c f (λ e. target.fresh (subst (λ z. In z live) (one_position vars y x target.type target.is_local e) i)) }
+pub kept_put : (vars : List CVar) (live : List Name) (x : Name) (c : Cell) (f : Frame) → Writable vars live x → Kept vars live f (put (position_of x (names vars)) c f)
+kept_put vars live x c f writable = record { by = λ y i. put_other (position_of x (names vars)) (position_of y (names vars)) c f (λ e. writable.fresh (subst (λ z. In z live) (one_position vars y x writable.type writable.is_local e) i)) }
 
 -- membership
 

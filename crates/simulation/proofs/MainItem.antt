@@ -15,7 +15,8 @@ use Rattle.c_tree.specs.declared.tree.CVar.{CVar}
 use Rattle.c_tree.specs.Code.{Code}
 use Rattle.c_tree.specs.Names.{maker_name, initializer_name, is_function_name, is_local_name}
 use Rattle.c_tree.specs.Spelling.{NamedCode, NamedItem}
-use Rattle.c_meaning.specs.Checked.{Signature, signature_named, same_type, AType, arguments_fit, call_fits_signature, is_the_type, has_type, code_fits, returns_last, Main, callable, item_fits, defined_names, is_called_once, once_in, once_in_main, all_called}
+use Rattle.c_tree.specs.declared.op.Wants.TheVariants.{AType}
+use Rattle.c_meaning.specs.Checked.{Signature, signature_named, same_type, arguments_fit, call_fits_signature, is_the_type, has_type, code_fits, returns_last, Main, callable, item_fits, defined_names, is_called_once, once_in, once_in_main, all_called}
 use Rattle.plan_rules.specs.Representation.{local}
 use Rattle.plan_rules.specs.Joined.{Part, first_local, second_local, calls_alone, call_main, main_code, main_function}
 use Rattle.plan_rules.specs.Translation.{Name}

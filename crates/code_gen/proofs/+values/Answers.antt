@@ -8,7 +8,7 @@ use Rattle.plan_rules.specs.Representation.{rep_of}
 use Rattle.plan_rules.specs.Translation.{objects}
 use Rattle.code_gen.specs.Callees.{callee_in}
 use Rattle.code_gen.specs.Settings.{setting}
-use Rattle.code_gen.specs.declared.emitter.Place.TheVariants.{Into}
+use Rattle.code_gen.specs.declared.emitter.Target.TheVariants.{Into}
 use Rattle.code_gen.specs.Emission.{AreParameters, IsValue, IsDelivered, AreArguments, IsReady, IsPrimitiveCall, IsFunctionCall}
 use Rattle.code_gen.proofs.Shapes.{weight-Primitive, weight-Call, weight_chosen, weight_at, tree-Constant, tree-Variable, tree-If, tree-Call, tree-Primitive, chosen_tree, chosen_parts, primitive_parts, call_parts, as_many_length, node_at, objects_are, objects_as_many, right_count, wrong_count}
 use Rattle.code_gen.proofs.Fitting.{primitive_parameters, object_parameters}
@@ -199,23 +199,23 @@ pub nodes::delivered-returns-in_ok-value-in-Constant : goal.nodes::delivered-ret
 nodes::delivered-returns-in_ok-value-in-Constant t c =
     let w = setting c.args.ctx.now in
     on_ok_weaker c.deliver.result
-    (λ puts. subst (λ (n : Tree). IsDelivered w c.args.e.now c.deliver.new.self n c.args.place) (sym (ap tree c.in-Constant.is ∙ tree-Constant c.in-Constant.c))
-    (delivered_constant w c.args.e.now c.deliver.new.self c.in-Constant.c c.in_ok-value-in-Constant.value c.args.place c.in_ok-value-in-Constant.ensures puts))
+    (λ puts. subst (λ (n : Tree). IsDelivered w c.args.e.now c.deliver.new.self n c.args.target) (sym (ap tree c.in-Constant.is ∙ tree-Constant c.in-Constant.c))
+    (delivered_constant w c.args.e.now c.deliver.new.self c.in-Constant.c c.in_ok-value-in-Constant.value c.args.target c.in_ok-value-in-Constant.ensures puts))
     c.deliver.ensures
 
 pub nodes::delivered-returns-in_ok-value-in-Variable : goal.nodes::delivered-returns-in_ok-value-in-Variable
 nodes::delivered-returns-in_ok-value-in-Variable t c =
     let w = setting c.args.ctx.now in
     on_ok_weaker c.deliver-in-Variable.result
-    (λ puts. subst (λ (n : Tree). IsDelivered w c.args.e.now c.deliver-in-Variable.new.self n c.args.place) (sym (ap tree c.in-Variable.is ∙ tree-Variable c.in-Variable.x))
-    (delivered_variable w c.args.e.now c.deliver-in-Variable.new.self c.in-Variable.x c.local_of.result c.in_ok-value-in-Variable.value c.args.place c.local_of.ensures c.in_ok-value-in-Variable.ensures puts))
+    (λ puts. subst (λ (n : Tree). IsDelivered w c.args.e.now c.deliver-in-Variable.new.self n c.args.target) (sym (ap tree c.in-Variable.is ∙ tree-Variable c.in-Variable.x))
+    (delivered_variable w c.args.e.now c.deliver-in-Variable.new.self c.in-Variable.x c.local_of.result c.in_ok-value-in-Variable.value c.args.target c.local_of.ensures c.in_ok-value-in-Variable.ensures puts))
     c.deliver-in-Variable.ensures
 
 pub nodes::delivered-returns-in-If : goal.nodes::delivered-returns-in-If
 nodes::delivered-returns-in-If t c =
     let w = setting c.args.ctx.now in
     on_ok_weaker c.branches.result
-    (λ given. subst (λ (n : Tree). IsDelivered w c.args.e.now c.branches.new.e n c.args.place)
+    (λ given. subst (λ (n : Tree). IsDelivered w c.args.e.now c.branches.new.e n c.args.target)
     (sym (chosen_tree c.args.node.now c.in-If.test c.in-If.first c.in-If.second c.get.result.now c.get-in-If.result.now c.get-in-If-2.result.now c.in-If.is c.get.ensures c.get-in-If.ensures c.get-in-If-2.ensures)) given)
     c.branches.ensures
 
@@ -226,8 +226,8 @@ nodes::delivered-returns-in-Some t c =
     let called : IsFunctionCall w c.args.e.now c.function_call.new.e c.in-Call.g (trees (map tree ns)) (Some c.in-Some.call) =
     subst (λ (ms : List Node). IsFunctionCall w c.args.e.now c.function_call.new.e c.in-Call.g (trees (map tree ms)) (Some c.in-Some.call)) c.as_slice.ensures (rw c.in-Some.is at c.in_ok-call-in-Call.ensures) in
     on_ok_weaker c.deliver-in-Some.result
-    (λ puts. subst (λ (n : Tree). IsDelivered w c.args.e.now c.deliver-in-Some.new.self n c.args.place) (sym (ap tree c.in-Call.is ∙ tree-Call c.in-Call.g ns))
-    (delivered_counted w c.args.e.now c.function_call.new.e c.deliver-in-Some.new.self c.in-Call.g (trees (map tree ns)) c.in-Some.call c.args.place called puts))
+    (λ puts. subst (λ (n : Tree). IsDelivered w c.args.e.now c.deliver-in-Some.new.self n c.args.target) (sym (ap tree c.in-Call.is ∙ tree-Call c.in-Call.g ns))
+    (delivered_counted w c.args.e.now c.function_call.new.e c.deliver-in-Some.new.self c.in-Call.g (trees (map tree ns)) c.in-Some.call c.args.target called puts))
     c.deliver-in-Some.ensures
 
 pub nodes::delivered-returns-in-None : goal.nodes::delivered-returns-in-None
@@ -236,8 +236,8 @@ nodes::delivered-returns-in-None t c =
     let ns = c.in-Call.nodes in
     let called : IsFunctionCall w c.args.e.now c.function_call.new.e c.in-Call.g (trees (map tree ns)) None =
     subst (λ (ms : List Node). IsFunctionCall w c.args.e.now c.function_call.new.e c.in-Call.g (trees (map tree ms)) None) c.as_slice.ensures (rw c.in-None.is at c.in_ok-call-in-Call.ensures) in
-    subst (λ (n : Tree). IsDelivered w c.args.e.now c.function_call.new.e n c.args.place) (sym (ap tree c.in-Call.is ∙ tree-Call c.in-Call.g ns))
-    (delivered_miscounted w c.args.e.now c.function_call.new.e c.in-Call.g (trees (map tree ns)) c.args.place called)
+    subst (λ (n : Tree). IsDelivered w c.args.e.now c.function_call.new.e n c.args.target) (sym (ap tree c.in-Call.is ∙ tree-Call c.in-Call.g ns))
+    (delivered_miscounted w c.args.e.now c.function_call.new.e c.in-Call.g (trees (map tree ns)) c.args.target called)
 
 pub nodes::delivered-returns-in_ok-call-in-Primitive : goal.nodes::delivered-returns-in_ok-call-in-Primitive
 nodes::delivered-returns-in_ok-call-in-Primitive t c =
@@ -246,8 +246,8 @@ nodes::delivered-returns-in_ok-call-in-Primitive t c =
     let ns = c.in-Primitive.nodes in
     let called = subst (λ (ms : List Node). IsPrimitiveCall w c.args.e.now c.primitive_call.new.e p (trees (map tree ms)) c.in_ok-call-in-Primitive.call) c.as_slice-in-Primitive.ensures c.in_ok-call-in-Primitive.ensures in
     on_ok_weaker c.as_word.result
-    (λ gives. subst (λ (n : Tree). IsDelivered w c.args.e.now c.as_word.new.e n c.args.place) (sym (ap tree c.in-Primitive.is ∙ tree-Primitive p ns))
-    (delivered_primitive w c.args.e.now c.primitive_call.new.e c.as_word.new.e p (trees (map tree ns)) c.rep.result c.in_ok-call-in-Primitive.call c.args.place
+    (λ gives. subst (λ (n : Tree). IsDelivered w c.args.e.now c.as_word.new.e n c.args.target) (sym (ap tree c.in-Primitive.is ∙ tree-Primitive p ns))
+    (delivered_primitive w c.args.e.now c.primitive_call.new.e c.as_word.new.e p (trees (map tree ns)) c.rep.result c.in_ok-call-in-Primitive.call c.args.target
     (c.rep.ensures ∙ ap rep_of c.result_type.ensures) called gives))
     c.as_word.ensures
 
@@ -263,6 +263,6 @@ pub branches::branches-returns : goal.branches::branches-returns
 branches::branches-returns t c =
     on_ok_weaker c.put-3.result
     (λ closes. delivered_if (setting c.args.ctx.now) c.args.e.now c.tested.new.e c.put.new.self c.delivered.new.e c.put-2.new.self c.delivered-2.new.e c.put-3.new.self
-    (tree c.args.test.now) (tree c.args.first.now) (tree c.args.second.now) c.in_ok-chosen.chosen c.args.place
+    (tree c.args.test.now) (tree c.args.first.now) (tree c.args.second.now) c.in_ok-chosen.chosen c.args.target
     c.in_ok-chosen.ensures c.in_ok-put.ensures c.in_ok-delivered.ensures c.in_ok-put-2.ensures c.in_ok-delivered-2.ensures closes)
     c.put-3.ensures

@@ -7,6 +7,6 @@ use Rattle.c_check.proofs.declared.Declared.shape.Goals as goal
 
 pub returns : goal.returns
 returns c =
-    ap (option_map (signed c.args.name.now)) c.get.ensures.value
-    ∙ shape-lookup c.args.name.now c.self.inside.shapes.entries
+    ap (option_map (signed c.args.name.now)) c.get.ensures
+    ∙ shape-lookup c.args.name.now c.self.inside.shapes
     ∙ ap (λ l. signature_named l c.args.name.now) c.self.view_is

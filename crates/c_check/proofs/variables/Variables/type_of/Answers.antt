@@ -5,6 +5,6 @@ use Rattle.c_check.proofs.variables.Variables.type_of.Goals as goal
 
 pub returns : goal.returns
 returns c =
-    c.copied.ensures ∙ c.get.ensures.value
-    ∙ type-lookup c.args.name.now c.self.inside.types.entries
+    c.copied.ensures ∙ c.get.ensures
+    ∙ type-lookup c.args.name.now c.self.inside.types
     ∙ ap (λ l. type_named l c.args.name.now) c.self.view_is
