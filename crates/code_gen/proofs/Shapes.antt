@@ -1,6 +1,6 @@
 -- The trees of nodes: what a node that may stand somewhere has for parts, and the work that is left.
 use Rattle.std.proofs.Common.{◌≡◌, ℕ, zero, suc, ◌+◌, ◌<◌, ◌≤◌, List, [], ◌∷◌, length, map, get_or, refl, sym, ap, ◌∙◌, subst, arith, rules}
-use Rattle.std.specs.Prelude.{IsTrue, Bool, true, false, nat_eq}
+use Rattle.std.specs.Prelude.{replicate, IsTrue, Bool, true, false, nat_eq}
 use Rattle.std.proofs.lemmas.Bool.{eq-eqb, eqb-true}
 use Rattle.std.specs.List.{list_any}
 use Rattle.built_table.specs.declared.primitives.Ty.{Ty}
@@ -94,7 +94,7 @@ pub objects_as_many : (ns : Trees) → AsMany (objects ns) ns
 objects_as_many none = tt
 objects_as_many (more n ns) = objects_as_many ns
 
-pub objects_are : (ns : List Node) → map (λ _. ty.Obj) ns ≡ objects (parts ns)
+pub objects_are : (ns : List Node) → replicate (length ns) ty.Obj ≡ objects (parts ns)
 objects_are [] = refl
 objects_are (n ∷ ns) = ap (λ ts. ty.Obj ∷ ts) (objects_are ns)
 

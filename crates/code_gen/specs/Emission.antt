@@ -2,6 +2,7 @@
 use Rattle.std.specs.Prelude.{◌≡◌, ℕ, suc, ◌<◌, ◌≤◌, ◌^◌, List, [], ◌∷◌, ◌++◌, map, replicate, IsTrue, true, false, length, Option, Some, None}
 use Rattle.std.specs.List.{list_all}
 use Rattle.built_table.specs.declared.primitives.Ty.{Ty}
+use Rattle.built_table.specs.declared.primitives.Ty.TheVariants as ty
 use Rattle.built_table.specs.declared.primitives.Primitive.{Primitive as Builtin}
 use Rattle.built_table.specs.Table.{params_of, is_parameter_type}
 use Rattle.core_tree.specs.declared.tree.VarId.{VarId}
@@ -32,11 +33,18 @@ use Rattle.code_gen.specs.declared.emitter.Emitter.{Emitter}
 use Rattle.code_gen.specs.declared.emitter.Held.{Held}
 use Rattle.code_gen.specs.declared.emitter.Target.{Target as NumberedTarget}
 use Rattle.code_gen.specs.declared.emitter.Target.TheVariants.{Into, Back}
+use Rattle.code_gen.specs.declared.wanted.Wanted.{Wanted}
+use Rattle.code_gen.specs.declared.wanted.Wanted.TheVariants.{Words, Of}
 
 abbrev pub step_of : Coercion → Step
 step_of coercion.Keep = Keep
 step_of (coercion.Make op) = Make op
 step_of coercion.Refuse = Refuse
+
+-- the types that a call wants of its arguments
+abbrev pub types_of : Wanted → List Ty
+types_of (Words n) = replicate n ty.Obj
+types_of (Of p) = params_of p
 
 -- types that parameters have
 abbrev pub AreParameters : List Ty → Type 0

@@ -9,7 +9,7 @@ use crate::calls::{function_call, primitive_call};
 use crate::coercions::{Coercion, coercion_to};
 use crate::context::Context;
 use crate::emitter::{Emitter, Held, Target};
-use crate::parts::{constant, constant_rep, local_expr, made_from, rep, result_type, word};
+use crate::parts::{constant, constant_rep, local_expr, made_from, rep, word};
 use built_table::Ty;
 use c_tree::{CCall, CExpr};
 use core_tree::Node;
@@ -42,7 +42,7 @@ pub fn value(ctx: &Context, e: &mut Emitter, node: &Node, wanted: Rep) -> Result
         },
         Node::Primitive(p, nodes) => {
             let call = primitive_call(ctx, e, *p, nodes.as_slice())?;
-            e.store(rep(result_type(*p)), CExpr::Call(call))
+            e.store(rep(p.result()), CExpr::Call(call))
         }
         Node::Sequence(_) => unreachable!(),
     }
@@ -77,7 +77,7 @@ pub fn delivered(
         },
         Node::Primitive(p, nodes) => {
             let call = primitive_call(ctx, e, *p, nodes.as_slice())?;
-            as_word(e, rep(result_type(*p)), call, target)
+            as_word(e, rep(p.result()), call, target)
         }
         Node::Sequence(_) => unreachable!(),
     }

@@ -1,15 +1,13 @@
 // What a representation, a primitive and a value are in C.
 ghost use Rattle.std.specs.Prelude.{◌≡◌, ◌∷◌, [], ◌++◌, pos, IfOk, map, Some};
-ghost use Rattle.built_table.specs.declared.primitives.Ty.TheVariants.{Obj};
-ghost use Rattle.built_table.specs.Table.{params_of, result_of};
 ghost use Rattle.c_tree.specs.Names.{local_name};
 ghost use Rattle.plan_rules.specs.declared.rep.Rep.TheVariants.{Obj as Word};
 ghost use Rattle.plan_rules.specs.Representation.{truth_atom, rep_of, c_type_of, own_rep, constant_rep, constant_expr, condition, operation, raise, raise_count, raise_type, local};
 
 use crate::emitter::Held;
-use built_table::{Primitive, Ty};
+use built_table::Ty;
 use c_tree::{CArg, CAtom, CCall, CExpr, CTy, Callee, Op, local_name_text};
-use core_tree::{Const, Node};
+use core_tree::Const;
 use plan_rules::Rep;
 use prim_table::ErrCode;
 use scheme_data::{List, OutOfMemory, Text, push_number};
@@ -33,37 +31,6 @@ pub fn c_type(rep: Rep) -> CTy
         Rep::Long => CTy::Long,
         Rep::Bool => CTy::Int,
     }
-}
-
-pub fn param_types(p: Primitive) -> &'static [Ty]
-    ensures { result.now ≡ params_of p }
-{
-    match p {
-        Primitive::Add | Primitive::Less => &[Ty::Long, Ty::Long],
-        Primitive::Display => &[Ty::Obj],
-        Primitive::Newline => &[],
-    }
-}
-
-pub fn result_type(p: Primitive) -> Ty
-    ensures { result ≡ result_of p }
-{
-    match p {
-        Primitive::Add => Ty::Long,
-        Primitive::Less => Ty::Bool,
-        Primitive::Display | Primitive::Newline => Ty::Obj,
-    }
-}
-
-/// The types that a function wants of its arguments.
-pub fn object_types(alloc: Global, arguments: &[Node]) -> Result<List<Ty>, OutOfMemory>
-    ensures { IfOk result (λ types. types ≡ map (λ _. Obj) arguments.now) }
-{
-    let mut types = List::new(alloc);
-    for _argument in arguments {
-        types.push(Ty::Obj)?;
-    }
-    Ok(types)
 }
 
 /// The value of a local.

@@ -7,6 +7,7 @@ use Rattle.std.specs.Ordering.{nat_cmp, ordering_then, is_eq}
 use Rattle.std.specs.List.{list_any}
 use Rattle.std.specs.Map.{lookup}
 use Rattle.std.specs.Option.{option_map, option_and_then, option_copied}
+use Rattle.std.proofs.lemmas.Bool.{not-true, not-false}
 use Rattle.std.proofs.lemmas.List.{take_more, take_all, map-append}
 use Rattle.std.proofs.lemmas.List.Folds.{list_any-append}
 use Rattle.std.proofs.lemmas.Option.{get_or_from_slice_get, slice_get_within}
@@ -136,21 +137,12 @@ seen_is seen us k t p each =
     (λ j. list_any (λ v. is_same (sym (pair_module k t p) j) (module_of v) && is_same (sym (pair_name k t p) j) (row_of v).name) us)
     ∙ sym (each k)
 
--- a pair that isn't put is there, and one that is put isn't
-is_there : (b : Bool) → not b ≡ false → b ≡ true
-is_there true h = refl
-is_there false h = absurd (true≢false h)
-
-is_absent : (b : Bool) → not b ≡ true → b ≡ false
-is_absent true h = absurd (true≢false (sym h))
-is_absent false h = refl
-
 pub seen_again : (taken : List Taken) (i : ℕ) (t : Taken) (k : Key × Key) (seen after : List (Key × Key)) (us : List Use) → i < length taken → t ≡ get_or taken i t → IsPair k t → AreSeen taken i seen us → not (list_any (same_pair k) seen) ≡ false → after ≡ seen → AreSeen taken (i + 1) after us
 seen_again taken i t k seen after us within is p had kept same = record {
   each = λ q. ap (list_any (same_pair q)) same ∙ had.each q;
   done =
       had.done ∙ ap (λ l. with_first same_use us (map use_of l)) (here taken i t within is)
-      ∙ ap (λ b. with_first same_use (if b then us else us ++ use_of t ∷ []) (map use_of (drop (i + 1) taken))) (seen_is seen us k t p had.each ∙ is_there (list_any (same_pair k) seen) kept);
+      ∙ ap (λ b. with_first same_use (if b then us else us ++ use_of t ∷ []) (map use_of (drop (i + 1) taken))) (seen_is seen us k t p had.each ∙ not-false (list_any (same_pair k) seen) kept);
 }
 
 -- the pair is in the set now, and every other pair is where it was
@@ -181,7 +173,7 @@ seen_first taken i t k seen after us new within is p had put grown added = recor
       ∙ ap (list_any (is_use q)) (sym added);
   done =
       had.done ∙ ap (λ l. with_first same_use us (map use_of l)) (here taken i t within is)
-      ∙ ap (λ b. with_first same_use (if b then us else us ++ use_of t ∷ []) (map use_of (drop (i + 1) taken))) (seen_is seen us k t p had.each ∙ is_absent (list_any (same_pair k) seen) put)
+      ∙ ap (λ b. with_first same_use (if b then us else us ++ use_of t ∷ []) (map use_of (drop (i + 1) taken))) (seen_is seen us k t p had.each ∙ not-true (list_any (same_pair k) seen) put)
       ∙ ap (λ l. with_first same_use l (map use_of (drop (i + 1) taken))) (sym added);
 }
 

@@ -1,5 +1,6 @@
 -- The tree of a module, from its source and the interfaces with which it is compiled.
 use Rattle.std.specs.Prelude.{ℕ, List, [], ◌∷◌, ◌++◌, map, find, Option, Some, None}
+use Rattle.std.specs.List.{AllByRecursion}
 use Rattle.scheme_data.specs.Data.{Plains}
 use Rattle.name_table.specs.Names.{has_name}
 use Rattle.iface_text.specs.declared.interface.Row.{Row}
@@ -14,8 +15,7 @@ use Rattle.resolver.specs.Drafts.{Draft, draft, exported_rows}
 use Rattle.resolver.specs.Firsts.{firsts}
 
 abbrev pub AreSpelled : List IfaceTree → Type 0
-AreSpelled [] = Unit {0}
-AreSpelled (i ∷ is) = HasSpelling i × AreSpelled is
+AreSpelled ifaces = AllByRecursion HasSpelling ifaces
 
 -- Rows --------------------------------------------------------------------------------------
 

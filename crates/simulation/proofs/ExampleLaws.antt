@@ -37,7 +37,7 @@ faithful_so others body items functions distinct found translated =
       is = ap (found_in m) found;
       one = (record { 0 = 0 }, refl);
     } in
-    keeps_meaning (m ∷ []) (part (codes "hello") items ∷ []) is (refl, translated, tt)
+    keeps_meaning (m ∷ []) (part (codes "hello") items ∷ []) is (record { named = refl; translated = translated }, tt)
 
 -- expressions in order
 nodes_faithful : IsFaithful (hello nodes.parts ∷ []) (part (codes "hello") (unit (var Obj x1 ∷ []) nodes.parts_code) ∷ []) (go_of (codes "hello"))
@@ -90,4 +90,4 @@ are_program = record { formed = (exporting_formed, (importing_formed, tt)); dist
 
 forms_faithful : IsFaithful forms.modules forms.parts (go_of b_name)
 unfolding KeepsMeaning
-forms_faithful = keeps_meaning forms.modules forms.parts are_program (refl, forms.forms_evaluated, (refl, forms.import_called_by_a_form, tt))
+forms_faithful = keeps_meaning forms.modules forms.parts are_program (record { named = refl; translated = forms.forms_evaluated }, (record { named = refl; translated = forms.import_called_by_a_form }, tt))

@@ -2,6 +2,7 @@
 use Rattle.std.proofs.Common.{◌≡◌, ℕ, suc, List, [], ◌∷◌, ◌++◌, Bool, true, false, refl, sym, ap, ◌∙◌, subst, inl, inr, arith, eq-eqb}
 use Rattle.std.specs.Prelude.{map, Some, ◌==◌, if◌then◌else◌}
 use Rattle.std.proofs.lemmas.Bool.{eqb-true}
+use Rattle.std.specs.Cmp.Lexicographic.{bytes_decides, nat_list_eq_equiv}
 use Rattle.scheme_data.specs.Names.{is_same}
 use Rattle.c_tree.specs.declared.tree.CTy.{CTy}
 use Rattle.c_tree.specs.declared.tree.CVar.{CVar}
@@ -9,7 +10,6 @@ use Rattle.c_meaning.specs.State.{Cell, Frame, put}
 use Rattle.c_meaning.specs.Execution.{Names, position_of}
 use Rattle.c_meaning.specs.Checked.{is_typed, variable_named}
 use Rattle.plan_rules.specs.Translation.{Name, In, Fresh, IsLocal, Target, into, back}
-use Rattle.simulation.proofs.Names.{same_name, turned}
 
 abbrev pub names : List CVar → Names
 names vars = map (λ v. v.name) vars
@@ -20,11 +20,11 @@ one_position [] x y t here e = absurd (cc)
 one_position (v ∷ vs) x y t here e = go (is_same x v.name) (is_same y v.name) refl refl e (λ further below. one_position vs x y t further below)
   where
     go : (p q : Bool) → is_same x v.name ≡ p → is_same y v.name ≡ q → (if p then 0 else suc (position_of x (names vs))) ≡ (if q then 0 else suc (position_of y (names vs))) → (IsLocal vs y t → position_of x (names vs) ≡ position_of y (names vs) → x ≡ y) → x ≡ y
-    go true true ex ey same later = same_name x v.name ex ∙ sym (same_name y v.name ey)
+    go true true ex ey same later = (bytes_decides x v.name).0 ex ∙ sym ((bytes_decides y v.name).0 ey)
     go true false ex ey same later = absurd (omega arith)
     go false true ex ey same later = absurd (omega arith)
     go false false ex ey same later =
-        let further : IsLocal vs y t = ap (λ z. is_typed t (if z then Some v else variable_named vs y)) (sym (turned y v.name false ey)) ∙ here in
+        let further : IsLocal vs y t = ap (λ z. is_typed t (if z then Some v else variable_named vs y)) (sym (nat_list_eq_equiv.symm v.name y ∙ ey)) ∙ here in
         let below : position_of x (names vs) ≡ position_of y (names vs) = omega arith in
         later further below
 

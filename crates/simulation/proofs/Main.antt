@@ -192,7 +192,7 @@ same_names : (ms : List ModuleTree) (parts : List Part) → AreTranslated ms par
 same_names [] [] are = refl
 same_names [] (q ∷ qs) are = absurd are
 same_names (m ∷ ms) [] are = absurd are
-same_names (m ∷ ms) (q ∷ qs) are = ap (λ n. n ∷ map (λ x. x.module_name) qs) are.0 ∙ ap (λ ns. m.name ∷ ns) (same_names ms qs are.2)
+same_names (m ∷ ms) (q ∷ qs) are = ap (λ n. n ∷ map (λ x. x.module_name) qs) are.0.named ∙ ap (λ ns. m.name ∷ ns) (same_names ms qs are.1)
 
 -- a function of one parameter is called with one value
 counted_one : {A : Type 0} (f : FunctionTree) (x : VarId) → f.params ≡ x ∷ [] → (s : State) (o : Outcome A) → counted (length f.params) 1 s o ≡ o

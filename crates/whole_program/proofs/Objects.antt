@@ -86,7 +86,7 @@ pub translated : (ms : List ModuleTree) (os : List ObjectTree) → AreObjectsOf 
 translated [] [] h = tt
 translated [] (o ∷ os) h = absurd h
 translated (m ∷ ms) [] h = absurd h
-translated (m ∷ ms) (o ∷ os) h = (h.0.name, h.0.translated, translated ms os h.1)
+translated (m ∷ ms) (o ∷ os) h = (record { named = h.0.name; translated = h.0.translated }, translated ms os h.1)
 
 pub same_main : (ms : List ModuleTree) (os : List ObjectTree) → AreObjectsOf ms os → links.main_of os ≡ main_of ms
 same_main [] [] h = refl

@@ -1,6 +1,5 @@
-use Rattle.std.proofs.Common.{◌≡◌, sym, ◌∙◌, subst, ap, map, arith, List, Some, None}
+use Rattle.std.proofs.Common.{◌≡◌, sym, ◌∙◌, subst, ap, map, length, arith, List, Some, None}
 use Rattle.std.proofs.lemmas.Result.{IfOk-weaker, on_ok_weaker}
-use Rattle.built_table.specs.declared.primitives.Ty.TheVariants.{Obj as Object}
 use Rattle.core_tree.specs.declared.tree.Node.{Node}
 use Rattle.core_tree.specs.Tree.{Tree, trees, tree}
 use Rattle.core_tree.specs.WellFormed.{AsMany}
@@ -9,9 +8,9 @@ use Rattle.plan_rules.specs.Translation.{objects}
 use Rattle.code_gen.specs.Callees.{callee_in}
 use Rattle.code_gen.specs.Settings.{setting}
 use Rattle.code_gen.specs.declared.emitter.Target.TheVariants.{Into}
-use Rattle.code_gen.specs.Emission.{AreParameters, IsValue, IsDelivered, AreArguments, IsReady, IsPrimitiveCall, IsFunctionCall}
+use Rattle.code_gen.specs.Emission.{types_of, IsValue, IsDelivered, AreArguments, IsReady, IsPrimitiveCall, IsFunctionCall}
 use Rattle.code_gen.proofs.Shapes.{weight-Primitive, weight-Call, weight_chosen, weight_at, tree-Constant, tree-Variable, tree-If, tree-Call, tree-Primitive, chosen_tree, chosen_parts, primitive_parts, call_parts, as_many_length, node_at, objects_are, objects_as_many, right_count, wrong_count}
-use Rattle.code_gen.proofs.Fitting.{primitive_parameters, object_parameters}
+use Rattle.code_gen.proofs.Fitting.{primitive_parameters, word_parameters, type_at}
 use Rattle.code_gen.proofs.Values.{Arguing, arguing_none, arguing_one, arguing_all, held_length, ready_from}
 use Rattle.code_gen.proofs.Evaluated.{value_constant, value_variable, value_primitive, value_chosen, value_counted, value_miscounted, is_tested, call_counted, call_miscounted}
 use Rattle.code_gen.proofs.Delivered.{delivered_constant, delivered_variable, delivered_primitive, delivered_counted, delivered_miscounted, delivered_if}
@@ -22,10 +21,10 @@ use Rattle.code_gen.proofs.+values.Goals as goal
 pub calls::arguments-loop-i-init : goal.calls::arguments-loop-i-init
 calls::arguments-loop-i-init t c =
     let w = setting c.args.ctx.now in
-    subst (λ held. Arguing w c.args.e.now c.args.e.now c.args.types.now c.args.nodes.now held 0) (sym c.new-held.ensures) (arguing_none w c.args.e.now c.args.types.now c.args.nodes.now)
+    subst (λ held. Arguing w c.args.e.now c.args.e.now (types_of c.args.wanted) c.args.nodes.now held 0) (sym c.new-held.ensures) (arguing_none w c.args.e.now (types_of c.args.wanted) c.args.nodes.now)
 
-pub calls::arguments-bounds-types-i : goal.calls::arguments-bounds-types-i
-calls::arguments-bounds-types-i t c = omega (arith, as_many_length c.args.types.now c.args.nodes.now c.requires.as_many)
+pub calls::arguments-at-requires : goal.calls::arguments-at-requires
+calls::arguments-at-requires t c = omega (arith, as_many_length (types_of c.args.wanted) c.args.nodes.now c.requires.as_many)
 
 pub calls::arguments-value-requires : goal.calls::arguments-value-requires
 calls::arguments-value-requires t c =
@@ -34,27 +33,27 @@ calls::arguments-value-requires t c =
 
 pub calls::arguments-loop-i-preserved : goal.calls::arguments-loop-i-preserved
 calls::arguments-loop-i-preserved t c =
-    arguing_one (setting c.args.ctx.now) c.args.e.now c.loop-i.e c.value.new.e c.args.types.now c.args.nodes.now c.loop-i.held c.loop-i.i _ c.index-nodes-i.result c.rep.result c.in_ok-one.one
-    (as_many_length c.args.types.now c.args.nodes.now c.requires.as_many) c.loop-i-test.true c.rep.ensures c.index-nodes-i.is c.loop-i.invariant c.in_ok-one.ensures c.push.new.self (c.in_ok-push.ensures {u = tt}).ok
+    arguing_one (setting c.args.ctx.now) c.args.e.now c.loop-i.e c.value.new.e (types_of c.args.wanted) c.args.nodes.now c.loop-i.held c.loop-i.i _ c.index-nodes-i.result c.rep.result c.in_ok-one.one
+    (as_many_length (types_of c.args.wanted) c.args.nodes.now c.requires.as_many) c.loop-i-test.true (c.rep.ensures ∙ ap rep_of (type_at (types_of c.args.wanted) c.loop-i.i c.at.result c.at.ensures)) c.index-nodes-i.is c.loop-i.invariant c.in_ok-one.ensures c.push.new.self (c.in_ok-push.ensures {u = tt}).ok
 
 pub calls::arguments-returns : goal.calls::arguments-returns
 calls::arguments-returns t c =
-    arguing_all (setting c.args.ctx.now) c.args.e.now c.loop-i.e c.args.types.now c.args.nodes.now c.loop-i.held c.loop-i.i (as_many_length c.args.types.now c.args.nodes.now c.requires.as_many) c.loop-i-test.false c.loop-i.invariant
+    arguing_all (setting c.args.ctx.now) c.args.e.now c.loop-i.e (types_of c.args.wanted) c.args.nodes.now c.loop-i.held c.loop-i.i (as_many_length (types_of c.args.wanted) c.args.nodes.now c.requires.as_many) c.loop-i-test.false c.loop-i.invariant
 
 pub calls::ready-fitted-requires-clause-as_many : goal.calls::ready-fitted-requires-clause-as_many
 calls::ready-fitted-requires-clause-as_many t c =
-    rw c.as_slice.ensures (held_length (setting c.args.ctx.now) c.args.e.now c.arguments.new.e c.args.types.now (trees (map tree c.args.nodes.now)) c.in_ok-held.held c.requires.as_many c.in_ok-held.ensures)
+    rw c.as_slice.ensures (held_length (setting c.args.ctx.now) c.args.e.now c.arguments.new.e (types_of c.args.wanted) (trees (map tree c.args.nodes.now)) c.in_ok-held.held c.requires.as_many c.in_ok-held.ensures)
 
 pub calls::primitive_call-ready-requires : goal.calls::primitive_call-ready-requires
 calls::primitive_call-ready-requires t c =
     let ns = trees (map tree c.args.nodes.now) in
-    (omega arith, (rw c.param_types.ensures (primitive_parameters c.args.p), (rw c.param_types.ensures c.requires.as_many, c.requires.expressions)))
+    (omega arith, (primitive_parameters c.args.p, (c.requires.as_many, c.requires.expressions)))
 
 pub calls::ready-returns : goal.calls::ready-returns
 calls::ready-returns t c =
     let w = setting c.args.ctx.now in
     IfOk-weaker c.local_args.result _ _
-    (λ args args_are. ready_from w c.args.e.now c.arguments.new.e c.fitted.new.e c.args.types.now (trees (map tree c.args.nodes.now)) c.in_ok-held.held c.in_ok-made.made args
+    (λ args args_are. ready_from w c.args.e.now c.arguments.new.e c.fitted.new.e (types_of c.args.wanted) (trees (map tree c.args.nodes.now)) c.in_ok-held.held c.in_ok-made.made args
     c.in_ok-held.ensures (rw (sym c.as_slice.ensures) c.in_ok-made.ensures) (rw (sym c.as_slice-2.ensures) args_are))
     c.local_args.ensures
 
@@ -62,39 +61,31 @@ calls::ready-returns t c =
 
 pub calls::function_call-arguments-requires : goal.calls::function_call-arguments-requires
 calls::function_call-arguments-requires t c =
-    let types_are : c.as_slice.result.now ≡ objects (trees (map tree c.args.nodes.now)) = c.as_slice.ensures ∙ c.in_ok-types.ensures ∙ objects_are c.args.nodes.now in
-    (omega arith, (subst (λ ts. AsMany ts (trees (map tree c.args.nodes.now))) (sym types_are) (objects_as_many (trees (map tree c.args.nodes.now))), c.requires.expressions))
+    (omega arith, (subst (λ ts. AsMany ts (trees (map tree c.args.nodes.now))) (sym (objects_are c.args.nodes.now)) (objects_as_many (trees (map tree c.args.nodes.now))), c.requires.expressions))
 
 pub calls::function_call-returns-then-nodes-called : goal.calls::function_call-returns-then-nodes-called
 calls::function_call-returns-then-nodes-called t c =
     let w = setting c.args.ctx.now in
     let f = callee_in c.callee-called.result in
     let ns = trees (map tree c.args.nodes.now) in
-    let types_are : c.as_slice.result.now ≡ objects ns = c.as_slice.ensures ∙ c.in_ok-types.ensures ∙ objects_are c.args.nodes.now in
     call_miscounted w c.args.e.now c.arguments.new.e c.put.new.self c.args.g f ns c.in_ok-arguments.field-0 c.in_ok-raise.raise c.callee-called.ensures (wrong_count f c.args.nodes.now c.if-nodes-called.true)
-    (subst (λ ts. AreArguments w c.args.e.now c.arguments.new.e ts ns c.in_ok-arguments.field-0) types_are c.in_ok-arguments.ensures)
+    (subst (λ ts. AreArguments w c.args.e.now c.arguments.new.e ts ns c.in_ok-arguments.field-0) (objects_are c.args.nodes.now) c.in_ok-arguments.ensures)
     c.in_ok-raise.ensures c.in_ok-put.ensures
 
 pub calls::function_call-ready-requires : goal.calls::function_call-ready-requires
-calls::function_call-ready-requires t c =
-    let objects_made : c.as_slice-2.result.now ≡ map (λ _. Object) c.args.nodes.now = c.as_slice-2.ensures ∙ c.in_ok-types.ensures in
-    let types_are : c.as_slice-2.result.now ≡ objects (trees (map tree c.args.nodes.now)) = objects_made ∙ objects_are c.args.nodes.now in (
-      omega arith,
-      (
-        subst AreParameters (sym objects_made) (object_parameters c.args.nodes.now),
-        (subst (λ ts. AsMany ts (trees (map tree c.args.nodes.now))) (sym types_are) (objects_as_many (trees (map tree c.args.nodes.now))), c.requires.expressions),
-      ),
-    )
+calls::function_call-ready-requires t c = (
+  omega arith,
+  (word_parameters (length c.args.nodes.now), (subst (λ ts. AsMany ts (trees (map tree c.args.nodes.now))) (sym (objects_are c.args.nodes.now)) (objects_as_many (trees (map tree c.args.nodes.now))), c.requires.expressions)),
+)
 
 pub calls::function_call-returns : goal.calls::function_call-returns
 calls::function_call-returns t c =
     let w = setting c.args.ctx.now in
     let f = callee_in c.callee-called.result in
     let ns = trees (map tree c.args.nodes.now) in
-    let types_are : c.as_slice-2.result.now ≡ objects ns = c.as_slice-2.ensures ∙ c.in_ok-types.ensures ∙ objects_are c.args.nodes.now in
     call_counted w c.args.e.now c.ready.new.e c.args.g f ns c.in_ok-name.name c.in_ok-args.args c.callee-called.ensures
     (right_count f c.args.nodes.now c.if-nodes-called.false)
-    (subst (λ ts. IsReady w c.args.e.now c.ready.new.e ts ns c.in_ok-args.args) types_are c.in_ok-args.ensures)
+    (subst (λ ts. IsReady w c.args.e.now c.ready.new.e ts ns c.in_ok-args.args) (objects_are c.args.nodes.now) c.in_ok-args.ensures)
     c.in_ok-name.ensures
 
 -- Values ------------------------------------------------------------------------------------
@@ -169,7 +160,7 @@ nodes::value-returns-in_ok-call-in-Primitive t c =
     IfOk-weaker c.store-in-Primitive.result _ _
     (λ held stored. subst (λ (n : Tree). IsValue w c.args.e.now c.store-in-Primitive.new.self n c.args.wanted held) (sym (ap tree c.in-Primitive.is ∙ tree-Primitive p ns))
     (value_primitive w c.args.e.now c.primitive_call.new.e c.store-in-Primitive.new.self p (trees (map tree ns)) c.args.wanted c.rep.result c.in_ok-call-in-Primitive.call held
-    called (c.rep.ensures ∙ ap rep_of c.result_type.ensures) stored))
+    called (c.rep.ensures ∙ ap rep_of c.result.ensures) stored))
     c.store-in-Primitive.ensures
 
 -- Places ------------------------------------------------------------------------------------
@@ -248,7 +239,7 @@ nodes::delivered-returns-in_ok-call-in-Primitive t c =
     on_ok_weaker c.as_word.result
     (λ gives. subst (λ (n : Tree). IsDelivered w c.args.e.now c.as_word.new.e n c.args.target) (sym (ap tree c.in-Primitive.is ∙ tree-Primitive p ns))
     (delivered_primitive w c.args.e.now c.primitive_call.new.e c.as_word.new.e p (trees (map tree ns)) c.rep.result c.in_ok-call-in-Primitive.call c.args.target
-    (c.rep.ensures ∙ ap rep_of c.result_type.ensures) called gives))
+    (c.rep.ensures ∙ ap rep_of c.result.ensures) called gives))
     c.as_word.ensures
 
 -- Branches ----------------------------------------------------------------------------------
