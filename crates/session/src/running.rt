@@ -15,7 +15,7 @@ use c_check::{CheckErr, check};
 use c_machine::Machine;
 use c_read::{CReadErr, read_c};
 use c_tree::CProgram;
-use scheme_data::{OutOfMemory, Text, TextList, push_number};
+use scheme_data::{OutOfMemory, Text, TextList, push_decimal};
 use std::alloc::Global;
 
 fn read_program(alloc: Global, text: &[u8]) -> Result<CProgram, MakeErr>
@@ -44,7 +44,7 @@ fn error_text(alloc: Global, code: u8, text: &Text) -> Result<Text, OutOfMemory>
     ensures { IfOk result (λ line. line ≡ error_line code text.now) }
 {
     let mut line = Text::from_bytes(alloc, b"error ")?;
-    push_number(&mut line, code as i64)?;
+    push_decimal(&mut line, code as u64)?;
     line.push(b' ')?;
     line.extend(text.as_bytes())?;
     line.push(b'\n')?;
