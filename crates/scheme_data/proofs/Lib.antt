@@ -1,3 +1,4 @@
+pub mod DigitTexts
 pub mod DistinctNames
 pub mod NamedEntries
 pub mod NumberTexts
