@@ -1,4 +1,3 @@
-pub mod DigitTexts
 pub mod DistinctNames
 pub mod NamedEntries
 pub mod NumberTexts

@@ -1,6 +1,5 @@
 -- How numbers are spelled in decimal, with digits that compute.
-use Rattle.std.specs.Prelude.{ℕ, zero, suc, ◌+◌, ◌-◌, ◌*◌, ◌/◌, ◌%◌, nat_lt, nat_le, Bool, ◌&&◌, if◌then◌else◌, List, [], ◌∷◌, length, Option, Some, None, ℤ, pos, negsuc}
-use Rattle.std.specs.List.{list_all}
+use Rattle.std.specs.Prelude.{ℕ, zero, suc, ◌+◌, ◌-◌, ◌*◌, ◌/◌, ◌%◌, nat_lt, nat_le, Bool, ◌&&◌, if◌then◌else◌, List, [], ◌∷◌, ℤ, pos, negsuc}
 
 abbrev pub is_digit : ℕ → Bool
 is_digit b = nat_le 48 b && nat_le b 57
@@ -9,10 +8,6 @@ is_digit b = nat_le 48 b && nat_le b 57
 abbrev pub digits_value : ℕ → List ℕ → ℕ
 digits_value n [] = n
 digits_value n (d ∷ ds) = digits_value (10 * n + (d - 48)) ds
-
--- the number that 1 to 19 digits spell, of which some may be zeros in front
-abbrev pub number_of_digits : List ℕ → Option ℕ
-number_of_digits word = if (nat_le 1 (length word) && nat_le (length word) 19) && list_all is_digit word then Some (digits_value 0 word) else None
 
 -- the digits of n in front of a text, for a number of at most so many digits
 abbrev pub digits_onto : ℕ → ℕ → List ℕ → List ℕ

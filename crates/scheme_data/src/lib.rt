@@ -12,7 +12,7 @@ mod text;
 pub use datum::{Datum, LimitKind, Place};
 pub use fixnum::{box_long, is_in_range, is_long, unbox_long};
 pub use list::{CallList, List, TextList};
-pub use number::{NumberText, number_of_digits, number_of_text, push_decimal, push_number};
+pub use number::{NumberText, number_of_text, push_decimal, push_number};
 pub use stack::Stack;
 pub use symbol::{has_symbol_form, is_digit, is_dot, is_symbol, is_symbol_byte, symbol_len};
 pub use text::{OutOfMemory, Text};

@@ -1,10 +1,9 @@
 ghost use Rattle.std.specs.Prelude.{◌≡◌, ◌++◌, ℤ, OnOk, OnErr, MatchOption, Some, IsTrue, ◌↔◌};
 ghost use Rattle.scheme_data.specs.Fixnum.{IsFixnum};
-ghost use Rattle.std.specs.List.{list_all};
-ghost use Rattle.scheme_data.specs.Decimal.{is_digit, number_of_digits, decimal_text, number_text};
+ghost use Rattle.scheme_data.specs.Decimal.{decimal_text, number_text};
 
 use crate::fixnum::is_in_range;
-use crate::{OutOfMemory, Text, is_digit};
+use crate::{OutOfMemory, Text};
 use itoa::Buffer;
 
 /// Room for the text of one number.
@@ -85,29 +84,4 @@ pub fn number_of_text(bytes: &[u8]) -> Option<i64>
         return Some(n);
     }
     None
-}
-
-fn are_digits(bytes: &[u8]) -> bool
-    ensures { result ≡ list_all is_digit bytes.now }
-{
-    bytes.iter().all(|b| is_digit(*b))
-}
-
-/// The number that 1 to 19 decimal digits spell; none for other bytes.
-pub fn number_of_digits(bytes: &[u8]) -> Option<u64>
-    ensures { result ≡ number_of_digits bytes.now }
-{
-    if bytes.is_empty() || bytes.len() > 19 {
-        return None;
-    }
-    if !are_digits(bytes) {
-        return None;
-    }
-    let Ok(text) = str::from_utf8(bytes) else {
-        return None;
-    };
-    let Ok(n) = text.parse::<u64>() else {
-        return None;
-    };
-    Some(n)
 }
