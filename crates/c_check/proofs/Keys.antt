@@ -5,30 +5,31 @@ use Rattle.std.proofs.lemmas.Option.{slice_get_past}
 use Rattle.std.specs.List.{zip, position_or_len}
 use Rattle.std.specs.Map.{lookup}
 use Rattle.name_table.specs.Names.{has_name, place_of}
-use Rattle.c_check.specs.Keys.{is_key, has_key}
+use Rattle.scheme_data.specs.Names.{is_same}
+use Rattle.c_check.specs.Keys.{has_key}
 
 -- where a name would stand among others
 abbrev place : List ℕ → List (List ℕ) → ℕ
-place name names = position_or_len (is_key name) names
+place name names = position_or_len (is_same name) names
 
-lookup-place : {A : Type 0} (name : List ℕ) (names : List (List ℕ)) (values : List A) → length names ≡ length values → lookup (is_key name) (zip names values) ≡ slice_get values (place name names)
+lookup-place : {A : Type 0} (name : List ℕ) (names : List (List ℕ)) (values : List A) → length names ≡ length values → lookup (is_same name) (zip names values) ≡ slice_get values (place name names)
 lookup-place name [] [] same = refl
 lookup-place name [] (w ∷ ws) same = absurd (omega arith)
 lookup-place name (n ∷ ns) [] same = absurd (omega arith)
-lookup-place name (n ∷ ns) (v ∷ vs) same = by (is_key name n) (lookup-place name ns vs (omega arith))
+lookup-place name (n ∷ ns) (v ∷ vs) same = by (is_same name n) (lookup-place name ns vs (omega arith))
   where
-    by : (b : Bool) → lookup (is_key name) (zip ns vs) ≡ slice_get vs (place name ns) → cond b (Some v) (lookup (is_key name) (zip ns vs)) ≡ slice_get (v ∷ vs) (cond (not b) (1 + place name ns) 0)
+    by : (b : Bool) → lookup (is_same name) (zip ns vs) ≡ slice_get vs (place name ns) → cond b (Some v) (lookup (is_same name) (zip ns vs)) ≡ slice_get (v ∷ vs) (cond (not b) (1 + place name ns) 0)
     by true rest = refl
     by false rest = rest ∙ (let e : suc (place name ns) ≡ 1 + place name ns = omega arith in ap (slice_get (v ∷ vs)) e)
 
-pub lookup-at : {A : Type 0} (name : List ℕ) (names : List (List ℕ)) (values : List A) → length names ≡ length values → (i : ℕ) → place_of name names ≡ Some i → lookup (is_key name) (zip names values) ≡ slice_get values i
+pub lookup-at : {A : Type 0} (name : List ℕ) (names : List (List ℕ)) (values : List A) → length names ≡ length values → (i : ℕ) → place_of name names ≡ Some i → lookup (is_same name) (zip names values) ≡ slice_get values i
 lookup-at name names values same i at = lookup-place name names values same ∙ ap (slice_get values) (by (nat_lt (place name names) (length names)) at)
   where
     by : (b : Bool) → cond b (Some (place name names)) None ≡ Some i → place name names ≡ i
     by true e = cc
     by false e = absurd (cc)
 
-pub lookup-none : {A : Type 0} (name : List ℕ) (names : List (List ℕ)) (values : List A) → length names ≡ length values → place_of name names ≡ None → lookup (is_key name) (zip names values) ≡ None
+pub lookup-none : {A : Type 0} (name : List ℕ) (names : List (List ℕ)) (values : List A) → length names ≡ length values → place_of name names ≡ None → lookup (is_same name) (zip names values) ≡ None
 lookup-none name names values same at = lookup-place name names values same ∙ by (nat_lt (place name names) (length names)) refl at
   where
     by : (b : Bool) → nat_lt (place name names) (length names) ≡ b → cond b (Some (place name names)) None ≡ None → slice_get values (place name names) ≡ None
@@ -38,9 +39,9 @@ lookup-none name names values same at = lookup-place name names values same ∙ 
 pub has-key : {A : Type 0} (name : List ℕ) (names : List (List ℕ)) (values : List A) → length names ≡ length values → has_name names name ≡ has_key name (zip names values)
 has-key name [] values same = refl
 has-key name (n ∷ ns) [] same = absurd (omega arith)
-has-key name (n ∷ ns) (v ∷ vs) same = by (is_key name n) (has-key name ns vs (omega arith))
+has-key name (n ∷ ns) (v ∷ vs) same = by (is_same name n) (has-key name ns vs (omega arith))
   where
-    by : (b : Bool) → has_name ns name ≡ has_key name (zip ns vs) → (b || has_name ns name) ≡ is_some (cond b (Some v) (lookup (is_key name) (zip ns vs)))
+    by : (b : Bool) → has_name ns name ≡ has_key name (zip ns vs) → (b || has_name ns name) ≡ is_some (cond b (Some v) (lookup (is_same name) (zip ns vs)))
     by true rest = refl
     by false rest = rest
 

@@ -1,6 +1,7 @@
 ghost use Rattle.std.specs.Prelude.{◌≡◌, [], ◌∷◌, ◌++◌, false, option_copied, slice_get, OnOk};
 ghost use Rattle.std.specs.Map.{lookup};
-ghost use Rattle.c_check.specs.Keys.{is_key, has_key};
+ghost use Rattle.scheme_data.specs.Names.{is_same};
+ghost use Rattle.c_check.specs.Keys.{has_key};
 
 use name_table::NameTable;
 use scheme_data::OutOfMemory;
@@ -48,7 +49,7 @@ impl<T> Named<T> {
 
     /// The value of a name.
     pub fn get(&self, name: &[u8]) -> Option<&T>
-        ensures { option_copied result ≡ lookup (is_key name.now) self.now }
+        ensures { option_copied result ≡ lookup (is_same name.now) self.now }
     {
         let Some(place) = self.names.position(name) else {
             return None;

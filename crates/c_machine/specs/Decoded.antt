@@ -25,6 +25,7 @@ use Rattle.c_meaning.specs.Execution.{Names, position_of}
 use Rattle.c_meaning.specs.Checked.{IsChecked}
 use Rattle.c_machine.specs.declared.program.Operand.{Operand}
 use Rattle.c_machine.specs.declared.program.Operand.TheVariants as operand
+use Rattle.c_machine.specs.declared.program.Operands.{Operands}
 use Rattle.c_machine.specs.declared.program.Target.{Target}
 use Rattle.c_machine.specs.declared.program.Target.TheVariants as target
 use Rattle.c_machine.specs.declared.program.Action.{Action}
@@ -56,6 +57,9 @@ operand_or names (Some a) = operand_in names a
 abbrev pub operand_at : Names → List CArg → ℕ → Operand
 operand_at names args i = operand_or names (slice_get args i)
 
+abbrev pub operands_in : Names → List CArg → Operands
+operands_in names args = record { first = operand_at names args 0; second = operand_at names args 1; third = operand_at names args 2 }
+
 abbrev pub number_in : CAtom → ℕ
 number_in (atom.Int n) = byte_of n
 number_in (atom.Name x) = 0
@@ -83,7 +87,7 @@ action_of names Truth args = action.Truth (operand_at names args 0)
 action_of names Raise args = action.Raise (code_in (slice_get args 0)) (text_in (slice_get args 1))
 action_of names Args args = action.Args
 action_of names Status args = action.Status (operand_at names args 0)
-action_of names (Prim_op p) args = action.Primitive p (operand_at names args 0) (operand_at names args 1) (operand_at names args 2)
+action_of names (Prim_op p) args = action.Primitive p (operands_in names args)
 
 abbrev pub call_of : Names → Names → Target → Callee → List CArg → Instr
 call_of names funs to (callee.Fun g) args = instr.Call to (position_of g funs) (map (operand_in names) args)

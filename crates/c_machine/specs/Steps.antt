@@ -79,7 +79,7 @@ performed (action.Truth a) base slots = Gives (truth_of (look base slots a)) []
 performed (action.Raise code text) base slots = Quits (Raised code text)
 performed action.Args base slots = Gives (bits_of Nil) []
 performed (action.Status a) base slots = Gives (status_of (look base slots a)) []
-performed (action.Primitive p a b c) base slots = acted p (look base slots a) (look base slots b) (look base slots c)
+performed (action.Primitive p o) base slots = acted p (look base slots o.first) (look base slots o.second) (look base slots o.third)
 
 -- the next state and what is written, or the end
 pub data Move : Type 0 where
@@ -159,7 +159,7 @@ NeedsAction (action.Truth a) base slots = Reads base slots a
 NeedsAction (action.Raise code text) base slots = Unit {0}
 NeedsAction action.Args base slots = Unit {0}
 NeedsAction (action.Status a) base slots = Reads base slots a
-NeedsAction (action.Primitive p a b c) base slots = NeedsOperands base slots (wants_of (Prim_op p)) (a ∷ b ∷ c ∷ [])
+NeedsAction (action.Primitive p o) base slots = NeedsOperands base slots (wants_of (Prim_op p)) (o.first ∷ o.second ∷ o.third ∷ [])
 
 abbrev pub NeedsTarget : Target → ℕ → List ℕ → Type 0
 NeedsTarget (target.Local x) base slots = base + x < length slots

@@ -1,9 +1,9 @@
 // From expressions to instructions.
 ghost use Rattle.std.specs.Prelude.{◌≡◌, map, slice_get, IfOk};
-ghost use Rattle.c_machine.specs.Decoded.{operand_of, operand_in, operand_at, code_in, text_in, action_of, call_of, expr_instr};
+ghost use Rattle.c_machine.specs.Decoded.{operand_of, operand_in, operand_at, operands_in, code_in, text_in, action_of, call_of, expr_instr};
 
 use crate::names::place;
-use crate::program::{Action, Instr, Operand, Target};
+use crate::program::{Action, Instr, Operand, Operands, Target};
 use crate::words::{EOF, FALSE, NIL, TRUE, UNSPEC, bits_of, byte};
 use c_tree::{CArg, CAtom, CCall, CExpr, Callee, Op};
 use name_table::NameTable;
@@ -74,6 +74,16 @@ fn text_at(alloc: Global, args: &List<CArg>) -> Result<Text, OutOfMemory>
     }
 }
 
+fn operands(names: &NameTable, args: &List<CArg>) -> Operands
+    ensures { result ≡ operands_in names.now args.now }
+{
+    Operands {
+        first: argument_at(names, args, 0),
+        second: argument_at(names, args, 1),
+        third: argument_at(names, args, 2),
+    }
+}
+
 fn action(
     alloc: Global,
     names: &NameTable,
@@ -90,12 +100,7 @@ fn action(
         Op::Raise => Ok(Action::Raise(code_at(args), text_at(alloc, args)?)),
         Op::Args => Ok(Action::Args),
         Op::Status => Ok(Action::Status(argument_at(names, args, 0))),
-        Op::Primitive(p) => Ok(Action::Primitive(
-            p,
-            argument_at(names, args, 0),
-            argument_at(names, args, 1),
-            argument_at(names, args, 2),
-        )),
+        Op::Primitive(p) => Ok(Action::Primitive(p, operands(names, args))),
     }
 }
 

@@ -9,7 +9,7 @@ ghost use Rattle.c_machine.specs.Steps.{look, acted, performed, Reads, NeedsOper
 ghost use Rattle.c_machine.specs.Words.{long_of};
 
 use crate::output::{display, write_all};
-use crate::program::{Action, Operand};
+use crate::program::{Action, Operand, Operands};
 use crate::stepping::{Acc, Flow};
 use crate::words::{
     NIL, UNSPEC, bits_of, boxed, boxed_truth, is_less, number_of, status, truth, unboxed,
@@ -101,7 +101,7 @@ pub fn perform<K: Sink>(
         Action::Raise(code, text) => raise(alloc, *code, text.as_bytes(), acc),
         Action::Args => give_value(acc, NIL),
         Action::Status(a) => give_value(acc, status(value(base, slots, a))),
-        Action::Primitive(p, a, b, c) => act(alloc, *p, base, slots, a, b, c, acc, out),
+        Action::Primitive(p, operands) => act(alloc, *p, operands, base, slots, acc, out),
     }
 }
 
@@ -110,25 +110,32 @@ pub fn perform<K: Sink>(
 fn act<K: Sink>(
     alloc: Global,
     p: Primitive,
+    operands: &Operands,
     base: usize,
     slots: &[u64],
-    a: &Operand,
-    b: &Operand,
-    c: &Operand,
     acc: &mut Acc,
     out: &mut K,
 ) -> Flow
-    requires { NeedsOperands base slots.now (wants_of (Op.Primitive p)) (a.now ∷ b.now ∷ c.now ∷ []) }
-    ensures does { Performs (acted p (look base slots.now a.now) (look base slots.now b.now) (look base slots.now c.now)) result acc.new.value acc.new.end (K.written out.old) (K.written out.new) }
+    requires { NeedsOperands base slots.now (wants_of (Op.Primitive p)) (operands.now.first ∷ operands.now.second ∷ operands.now.third ∷ []) }
+    ensures does { Performs (acted p (look base slots.now operands.now.first) (look base slots.now operands.now.second) (look base slots.now operands.now.third)) result acc.new.value acc.new.end (K.written out.old) (K.written out.new) }
     ensures later { K.faults out.old ≤ K.faults out.new }
     ensures cause { result ≡ Flow.WriteFault → Rose (K.faults out.old) (K.faults out.new) }
 {
+    let Operands { first, second, .. } = operands;
     match p {
-        Primitive::Add => sum(alloc, value(base, slots, a), value(base, slots, b), acc),
-        Primitive::Less => give_value(acc, is_less(value(base, slots, a), value(base, slots, b))),
+        Primitive::Add => sum(
+            alloc,
+            value(base, slots, first),
+            value(base, slots, second),
+            acc,
+        ),
+        Primitive::Less => give_value(
+            acc,
+            is_less(value(base, slots, first), value(base, slots, second)),
+        ),
         Primitive::Display => {
             acc.value = UNSPEC;
-            display(out, value(base, slots, a))
+            display(out, value(base, slots, first))
         }
         Primitive::Newline => {
             acc.value = UNSPEC;

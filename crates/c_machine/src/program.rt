@@ -9,6 +9,14 @@ pub enum Operand {
     Word(u64),
 }
 
+/// The operands of a primitive: those that it takes, and then words that nothing reads.
+#[derive(Clone, Copy, Debug)]
+pub struct Operands {
+    pub first: Operand,
+    pub second: Operand,
+    pub third: Operand,
+}
+
 /// Where a value goes: to a local by its place, nowhere, or to the caller. Or it is a condition: where it is 0, the function goes on at this place.
 #[derive(Clone, Copy, Debug)]
 pub enum Target {
@@ -29,8 +37,7 @@ pub enum Action {
     Raise(u8, Text),
     Args,
     Status(Operand),
-    /// Of a primitive, the operands that it takes, and then words that nothing reads.
-    Primitive(Primitive, Operand, Operand, Operand),
+    Primitive(Primitive, Operands),
 }
 
 /// An instruction.

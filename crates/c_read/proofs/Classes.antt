@@ -20,7 +20,8 @@ use Rattle.c_tree.specs.Operations.{op_text, op_named}
 use Rattle.c_tree.proofs.OpNames.{every_operation, op_named-op_text}
 use Rattle.c_tree.specs.Names.{is_function_name, is_local_name, is_label_name, is_numeral}
 use Rattle.c_tree.specs.Spelling.{type_text, atom_text, callee_text, piece_tokens, pieces_tokens, NamedAtom, NamedCallee, NamedPiece, NamedPieces}
-use Rattle.c_read.specs.Words.{type_of, number_of, constant_of, or_number, atom_of, callee_of, is_text, is_return, is_if, is_else}
+use Rattle.c_read.specs.Words.{type_of, number_of, constant_of, or_number, atom_of, callee_of, is_return, is_if, is_else}
+use Rattle.scheme_data.specs.Names.{is_same}
 use Rattle.c_read.specs.Sequences.{is_first}
 use Rattle.c_read.specs.Productions.{is_type}
 use Rattle.c_read.proofs.Numbers.{Headed, headed_decimal, number_is}
@@ -89,10 +90,10 @@ callee_of_text (callee.Op op) h = rw (not_true (is_function_name (op_text op)) (
 
 -- What a word isn't -------------------------------------------------------------------------
 
-apart : (f : List ℕ → Bool) (word text : List ℕ) → f text ≡ false → f word ≡ true → is_text word text ≡ false
-apart f word text n y = go (is_text word text) refl
+apart : (f : List ℕ → Bool) (word text : List ℕ) → f text ≡ false → f word ≡ true → is_same word text ≡ false
+apart f word text n y = go (is_same word text) refl
   where
-    go : (b : Bool) → is_text word text ≡ b → b ≡ false
+    go : (b : Bool) → is_same word text ≡ b → b ≡ false
     go true e = let same : word ≡ text = (bytes_eq-Decides word text).0 e in let k : f word ≡ f text = ap f same in cc
     go false e = refl
 

@@ -5,7 +5,8 @@ use Rattle.std.proofs.lemmas.Bool.{and_parts, and_from, ltb-true, ne_eqb}
 use Rattle.std.proofs.lemmas.Slice.Eq.{bytes_eq-Decides}
 use Rattle.scheme_data.specs.Decimal.{digits_onto, decimal_text, number_text}
 use Rattle.scheme_data.specs.Fixnum.{is_fixnum, IsFixnum}
-use Rattle.c_read.specs.Words.{digits_value, signed_value, if_spelled, number_of, is_text}
+use Rattle.c_read.specs.Words.{digits_value, signed_value, if_spelled, number_of}
+use Rattle.scheme_data.specs.Names.{is_same}
 
 -- one more than the greatest number of so many digits
 abbrev bound : ℕ → ℕ
@@ -69,19 +70,19 @@ number_value (negsuc n) f =
 
 spelled : (n m : ℤ) (word : List ℕ) → m ≡ n → IsFixnum n → number_text n ≡ word → if_spelled m word ≡ Some n
 spelled n m word e f s =
-    let t : is_text (number_text n) word ≡ true = (bytes_eq-Decides (number_text n) word).1 s in
-    ap (λ m. if_spelled m word) e ∙ ap (λ b. if b then Some n else None) (and_from (is_text (number_text n) word) (is_fixnum n) t f)
+    let t : is_same (number_text n) word ≡ true = (bytes_eq-Decides (number_text n) word).1 s in
+    ap (λ m. if_spelled m word) e ∙ ap (λ b. if b then Some n else None) (and_from (is_same (number_text n) word) (is_fixnum n) t f)
 
 pub number_is : (word : List ℕ) (n : ℤ) → IsFixnum n → number_text n ≡ word → number_of word ≡ Some n
 unfolding number_of
 number_is word n f s = spelled n (signed_value word) word (ap signed_value (sym s) ∙ number_value n f) f s
 
 if_back : (m n : ℤ) (word : List ℕ) → if_spelled m word ≡ Some n → IsFixnum n × (number_text n ≡ word)
-if_back m n word = go (is_text (number_text m) word && is_fixnum m) refl
+if_back m n word = go (is_same (number_text m) word && is_fixnum m) refl
   where
-    go : (b : Bool) → (is_text (number_text m) word && is_fixnum m) ≡ b → (if b then Some m else None) ≡ Some n → IsFixnum n × (number_text n ≡ word)
+    go : (b : Bool) → (is_same (number_text m) word && is_fixnum m) ≡ b → (if b then Some m else None) ≡ Some n → IsFixnum n × (number_text n ≡ word)
     go true e f =
-        let p = and_parts (is_text (number_text m) word) (is_fixnum m) e in
+        let p = and_parts (is_same (number_text m) word) (is_fixnum m) e in
         let same : m ≡ n = cc in
         (ap is_fixnum (sym same) ∙ p.1, ap number_text (sym same) ∙ (bytes_eq-Decides (number_text m) word).0 p.0)
     go false e f = absurd (cc)

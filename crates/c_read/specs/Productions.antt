@@ -15,7 +15,8 @@ use Rattle.c_tree.specs.declared.tree.Token.{Token}
 use Rattle.c_tree.specs.declared.tree.Token.TheVariants.{Word, Mark, Str, Bad}
 use Rattle.c_tree.specs.Names.{is_function_name, is_local_name, is_label_name}
 use Rattle.c_read.specs.Sequences.{after, on_rest, read_as, if_else, after_mark, word_first, named, is_first, onto, all}
-use Rattle.c_read.specs.Words.{type_of, atom_of, callee_of, is_text, is_return, is_if, is_else}
+use Rattle.c_read.specs.Words.{type_of, atom_of, callee_of, is_return, is_if, is_else}
+use Rattle.scheme_data.specs.Names.{is_same}
 use Rattle.c_read.specs.Nesting.{code_in}
 
 -- Calls -------------------------------------------------------------------------------------
@@ -67,7 +68,7 @@ condition tokens =
     on_rest (after_mark 40 tokens) (λ inner. after (expression inner) (λ e rest. on_rest (after_mark 41 rest) (λ more. on_rest (after_mark 123 more) (λ left. Some (piece.If e, left)))))
 
 abbrev pub after_for : List Token → Option (List Token)
-after_for tokens = after (word_first tokens) (λ w rest. if is_text w (codes "for") then Some rest else None)
+after_for tokens = after (word_first tokens) (λ w rest. if is_same w (codes "for") then Some rest else None)
 
 -- `for ( ; ; ) {`
 unfoldable pub after_head : List Token → Option (List Token)
@@ -178,7 +179,7 @@ with_params t name tokens =
     after (type_first tokens) (λ one rest. if is_first any_word rest then with_names t name one rest else with_types t name one rest)
 
 abbrev pub is_void : List ℕ → Bool
-is_void word = is_text word (codes "void")
+is_void word = is_same word (codes "void")
 
 -- after the opening parenthesis
 unfoldable pub item_rest : CTy → List ℕ → List Token → Option (Item × List Token)

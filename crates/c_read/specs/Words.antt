@@ -1,8 +1,8 @@
 -- What a word is, by its text.
 use Rattle.std.specs.Prelude.{ℕ, List, [], ◌∷◌, ◌+◌, ◌-◌, ◌*◌, codes, nat_eq, Bool, ◌&&◌, if◌then◌else◌, Option, Some, None, ℤ, pos, negsuc}
 use Rattle.std.specs.Option.{option_map}
-use Rattle.std.specs.Cmp.Lexicographic.{pointwise}
 use Rattle.scheme_data.specs.Decimal.{number_text}
+use Rattle.scheme_data.specs.Names.{is_same}
 use Rattle.scheme_data.specs.Fixnum.{is_fixnum}
 use Rattle.c_tree.specs.declared.tree.CTy.{CTy}
 use Rattle.c_tree.specs.declared.tree.CTy.TheVariants as ty
@@ -13,15 +13,12 @@ use Rattle.c_tree.specs.declared.tree.Callee.TheVariants as callee
 use Rattle.c_tree.specs.Operations.{op_named}
 use Rattle.c_tree.specs.Names.{is_function_name, is_local_name}
 
-abbrev pub is_text : List ℕ → List ℕ → Bool
-is_text word text = pointwise nat_eq word text
-
 unfoldable pub type_of : List ℕ → Option CTy
 type_of word =
-    if is_text word (codes "obj") then Some ty.Obj
-    else (if is_text word (codes "long") then Some ty.Long
-    else (if is_text word (codes "char") then Some ty.Char
-    else (if is_text word (codes "int") then Some ty.Int else None)))
+    if is_same word (codes "obj") then Some ty.Obj
+    else (if is_same word (codes "long") then Some ty.Long
+    else (if is_same word (codes "char") then Some ty.Char
+    else (if is_same word (codes "int") then Some ty.Int else None)))
 
 -- the number of digits after some
 abbrev pub digits_value : ℕ → List ℕ → ℕ
@@ -33,7 +30,7 @@ signed_value [] = pos 0
 signed_value (b ∷ bs) = if nat_eq b 45 then negsuc (digits_value 0 bs - 1) else pos (digits_value 0 (b ∷ bs))
 
 abbrev pub if_spelled : ℤ → List ℕ → Option ℤ
-if_spelled n word = if is_text (number_text n) word && is_fixnum n then Some n else None
+if_spelled n word = if is_same (number_text n) word && is_fixnum n then Some n else None
 
 -- the fixnum of which the word is the text
 unfoldable pub number_of : List ℕ → Option ℤ
@@ -41,11 +38,11 @@ number_of word = if_spelled (signed_value word) word
 
 unfoldable pub constant_of : List ℕ → Option CAtom
 constant_of word =
-    if is_text word (codes "BGL_FALSE") then Some atom.False
-    else (if is_text word (codes "BGL_TRUE") then Some atom.True
-    else (if is_text word (codes "BGL_NIL") then Some atom.Nil
-    else (if is_text word (codes "BGL_UNSPEC") then Some atom.Unspec
-    else (if is_text word (codes "BGL_EOF") then Some atom.Eof else None))))
+    if is_same word (codes "BGL_FALSE") then Some atom.False
+    else (if is_same word (codes "BGL_TRUE") then Some atom.True
+    else (if is_same word (codes "BGL_NIL") then Some atom.Nil
+    else (if is_same word (codes "BGL_UNSPEC") then Some atom.Unspec
+    else (if is_same word (codes "BGL_EOF") then Some atom.Eof else None))))
 
 abbrev pub or_number : Option CAtom → Option ℤ → Option CAtom
 or_number None number = option_map atom.Int number
@@ -58,10 +55,10 @@ unfoldable pub callee_of : List ℕ → Option Callee
 callee_of word = if is_function_name word then Some (callee.Fun word) else option_map callee.Op (op_named word)
 
 abbrev pub is_return : List ℕ → Bool
-is_return word = is_text word (codes "return")
+is_return word = is_same word (codes "return")
 
 abbrev pub is_if : List ℕ → Bool
-is_if word = is_text word (codes "if")
+is_if word = is_same word (codes "if")
 
 abbrev pub is_else : List ℕ → Bool
-is_else word = is_text word (codes "else")
+is_else word = is_same word (codes "else")

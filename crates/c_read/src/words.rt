@@ -4,13 +4,14 @@ ghost use Rattle.scheme_data.specs.Decimal.{number_text};
 ghost use Rattle.scheme_data.specs.Fixnum.{IsFixnum};
 ghost use Rattle.c_tree.specs.Operations.{op_text, op_named};
 ghost use Rattle.c_tree.specs.Spelling.{type_text, atom_text, callee_text, NamedAtom, NamedCallee};
-ghost use Rattle.c_read.specs.Words.{is_text, type_of, number_of, constant_of, atom_of, callee_of};
+ghost use Rattle.c_read.specs.Words.{type_of, number_of, constant_of, atom_of, callee_of};
+ghost use Rattle.scheme_data.specs.Names.{is_same};
 
 use c_tree::{CAtom, CTy, Callee, Op, names_function, names_local, op_by_name};
 use scheme_data::{Text, number_of_text};
 
 pub fn has_text(word: &[u8], text: &[u8]) -> bool
-    ensures value { result ≡ is_text word.now text.now }
+    ensures value { result ≡ is_same word.now text.now }
     ensures same { IsTrue result → word.now ≡ text.now }
 {
     word == text

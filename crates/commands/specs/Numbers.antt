@@ -2,9 +2,7 @@
 use Rattle.std.specs.Prelude.{ℕ, nat_le, Bool, ◌&&◌, if◌then◌else◌, List, length, Option, Some, None}
 use Rattle.std.specs.List.{list_all}
 use Rattle.std.specs.Str.Parse.{digits_value}
-
-abbrev pub is_digit : ℕ → Bool
-is_digit b = nat_le 48 b && nat_le b 57
+use Rattle.scheme_data.specs.Decimal.{is_digit}
 
 abbrev pub is_numeral : List ℕ → Bool
 is_numeral word = (nat_le 1 (length word) && nat_le (length word) 19) && list_all is_digit word

@@ -2,7 +2,8 @@
 ghost use Rattle.std.specs.Prelude.{◌≡◌, IsTrue, Some};
 ghost use Rattle.std.specs.List.{list_all};
 ghost use Rattle.std.specs.Str.Parse.{digits_value};
-ghost use Rattle.commands.specs.Numbers.{number_up_to, is_numeral, is_digit};
+ghost use Rattle.scheme_data.specs.Decimal.{is_digit};
+ghost use Rattle.commands.specs.Numbers.{number_up_to, is_numeral};
 
 const MOST_DIGITS: usize = 19;
 
