@@ -12,7 +12,8 @@ use Rattle.core_tree.specs.declared.tree.ImportItem.{ImportItem}
 use Rattle.core_tree.specs.declared.tree.Use.{Use}
 use Rattle.core_tree.specs.Tree.{Callee}
 use Rattle.core_tree.specs.WellFormed.{module_of, row_of}
-use Rattle.meaning.specs.Order.{Imports, imports_of, IsOrder, has_some, root_of, chosen}
+use Rattle.std.specs.Option.{is_some}
+use Rattle.meaning.specs.Order.{Imports, imports_of, IsOrder, root_of, chosen}
 use Rattle.meaning.specs.Program.{main_in}
 use Rattle.c_tree.specs.Spelling.{CText}
 use Rattle.plan_rules.specs.Joined.{Part, joined}
@@ -78,7 +79,7 @@ missing_module names n (i ∷ is) = if has_name names i.module_name then missing
 -- the first use whose name its module doesn't export now
 abbrev pub missing_name : List ObjectTree → ℕ → List Use → Option LinkErr
 missing_name os n [] = None
-missing_name os n (u ∷ us) = if has_some (current_row os u) then missing_name os n us else Some (MissingName n (module_of u) (row_of u).name)
+missing_name os n (u ∷ us) = if is_some (current_row os u) then missing_name os n us else Some (MissingName n (module_of u) (row_of u).name)
 
 abbrev pub missing_modules : List ObjectTree → Option LinkErr
 missing_modules os = first_refused (λ n o. missing_module (names_of os) n o.imports) 1 os
@@ -95,7 +96,7 @@ abbrev pub are_modules : List ObjectTree → Bool
 are_modules os = not (nat_lt most_modules (length os)) && are_distinct (names_of os)
 
 abbrev pub has_one_main : List ObjectTree → Bool
-has_one_main os = nat_eq (length (filter (λ o. has_some o.main) os)) 1
+has_one_main os = nat_eq (length (filter (λ o. is_some o.main) os)) 1
 
 abbrev pub unless : Bool → Option LinkErr
 unless true = None

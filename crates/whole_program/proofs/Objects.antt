@@ -14,7 +14,9 @@ use Rattle.core_tree.specs.declared.tree.ImportItem.{ImportItem}
 use Rattle.core_tree.specs.declared.tree.Use.{Use}
 use Rattle.core_tree.specs.Tree.{ModuleTree}
 use Rattle.core_tree.specs.WellFormed.{module_of, row_of, IsWellFormed}
-use Rattle.meaning.specs.Order.{has_some, onto_chosen, chosen}
+use Rattle.std.specs.List.{cons_option}
+use Rattle.std.specs.Option.{is_some}
+use Rattle.meaning.specs.Order.{chosen}
 use Rattle.meaning.specs.Program.{main_in, main_of}
 use Rattle.simulation.specs.Law.{AreTranslated}
 use Rattle.object_text.specs.Format.{ObjectTree}
@@ -69,7 +71,7 @@ parallel_at (m ∷ ms) [] h k = absurd h
 parallel_at (m ∷ ms) (o ∷ os) h zero = h.0
 parallel_at (m ∷ ms) (o ∷ os) h (suc k) = parallel_at ms os h.1 k
 
-parallel_onto : (q : Option ModuleTree) (r : Option ObjectTree) (ms : List ModuleTree) (os : List ObjectTree) → Parallel q r → AreObjectsOf ms os → AreObjectsOf (onto_chosen q ms) (onto_chosen r os)
+parallel_onto : (q : Option ModuleTree) (r : Option ObjectTree) (ms : List ModuleTree) (os : List ObjectTree) → Parallel q r → AreObjectsOf ms os → AreObjectsOf (cons_option q ms) (cons_option r os)
 parallel_onto None None ms os p h = h
 parallel_onto None (Some o) ms os p h = absurd p
 parallel_onto (Some m) None ms os p h = absurd p
@@ -182,15 +184,15 @@ all_present names n (o ∷ os) e =
     (imports_present names n o.imports parts.0, all_present names (suc n) os parts.1)
 
 -- as many modules as objects have a main function
-same_count : (ms : List ModuleTree) (os : List ObjectTree) → AreObjectsOf ms os → length (filter (λ (o : ObjectTree). has_some o.main) os) ≡ length (filter (λ (m : ModuleTree). has_some m.main) ms)
+same_count : (ms : List ModuleTree) (os : List ObjectTree) → AreObjectsOf ms os → length (filter (λ (o : ObjectTree). is_some o.main) os) ≡ length (filter (λ (m : ModuleTree). is_some m.main) ms)
 same_count [] [] h = refl
 same_count [] (o ∷ os) h = absurd h
 same_count (m ∷ ms) [] h = absurd h
 same_count (m ∷ ms) (o ∷ os) h =
-    ap (λ q. length (cond (has_some q) (o ∷ filter (λ (p : ObjectTree). has_some p.main) os) (filter (λ (p : ObjectTree). has_some p.main) os))) h.0.main ∙ go (has_some m.main) (same_count ms os h.1)
+    ap (λ q. length (cond (is_some q) (o ∷ filter (λ (p : ObjectTree). is_some p.main) os) (filter (λ (p : ObjectTree). is_some p.main) os))) h.0.main ∙ go (is_some m.main) (same_count ms os h.1)
   where
-    go : (b : Bool) → length (filter (λ (p : ObjectTree). has_some p.main) os) ≡ length (filter (λ (n : ModuleTree). has_some n.main) ms)
-        → length (cond b (o ∷ filter (λ (p : ObjectTree). has_some p.main) os) (filter (λ (p : ObjectTree). has_some p.main) os)) ≡ length (cond b (m ∷ filter (λ (n : ModuleTree). has_some n.main) ms) (filter (λ (n : ModuleTree). has_some n.main) ms))
+    go : (b : Bool) → length (filter (λ (p : ObjectTree). is_some p.main) os) ≡ length (filter (λ (n : ModuleTree). is_some n.main) ms)
+        → length (cond b (o ∷ filter (λ (p : ObjectTree). is_some p.main) os) (filter (λ (p : ObjectTree). is_some p.main) os)) ≡ length (cond b (m ∷ filter (λ (n : ModuleTree). is_some n.main) ms) (filter (λ (n : ModuleTree). is_some n.main) ms))
     go true later = ap suc later
     go false later = later
 
@@ -207,7 +209,7 @@ linkable ms os h formed e = record {
       (each_to (λ (o : ObjectTree). list_all (λ u. agrees (row_of u) (current_row os u)) o.uses ≡ true) (λ (o : ObjectTree). Each (HasRow (map interface_in ms)) o.uses)
       (λ o q. each_to (λ u. agrees (row_of u) (current_row os u) ≡ true) (HasRow (map interface_in ms)) (λ u r. current (map interface_in ms) u (ap (agrees (row_of u)) (sym (same_rows ms os h (module_of u) (row_of u).name)) ∙ r)) o.uses (each_of (λ u. agrees (row_of u) (current_row os u)) o.uses q))
       os (each_of (λ (o : ObjectTree). list_all (λ u. agrees (row_of u) (current_row os u)) o.uses) os all.are_current_all));
-  one_main = only_passing (λ (m : ModuleTree). has_some m.main) ms (sym (same_count ms os h) ∙ eqb-true (length (filter (λ (o : ObjectTree). has_some o.main) os)) 1 (one_main os e));
+  one_main = only_passing (λ (m : ModuleTree). is_some m.main) ms (sym (same_count ms os h) ∙ eqb-true (length (filter (λ (o : ObjectTree). is_some o.main) os)) 1 (one_main os e));
 }
   where
     all : AreAccepted os
