@@ -10,7 +10,8 @@ use Rattle.c_tree.specs.declared.function.CFun.{CFun}
 use Rattle.c_tree.specs.Functions.{fun_of}
 use Rattle.c_meaning.specs.State.{Cell, Frame, blank, frame_of}
 use Rattle.c_meaning.specs.Execution.{arguments, cells, entry}
-use Rattle.c_meaning.specs.Checked.{AType, arguments_fit, atom_fits}
+use Rattle.c_tree.specs.declared.op.Wants.TheVariants.{AType}
+use Rattle.c_meaning.specs.Checked.{arguments_fit, atom_fits}
 use Rattle.c_machine.specs.Steps.{look, ReadsAll}
 use Rattle.c_machine.specs.Decoded.{operand_in, variables_of, variable_names}
 use Rattle.c_machine.proofs.Typing.{Slot, Holds, atom_reading}

@@ -7,7 +7,7 @@ use Rattle.c_tree.specs.declared.tree.CCall.{CCall}
 use Rattle.c_tree.specs.Code.{Code, assign, call, return, test, Fun}
 use Rattle.c_meaning.specs.State.{Cell, AWord, ANumber, State, Frame, Answer, Has, Leaves, Stops, Ends, Faults, Flow, Next, Goes, Returns, Escapes, Raises, Spends, Fails, with, chosen, after, answer}
 use Rattle.c_meaning.specs.Execution.{Names, position_of, again, run}
-use Rattle.c_machine.specs.declared.program.Dest.TheVariants as dest
+use Rattle.c_machine.specs.declared.program.Target.TheVariants as target
 use Rattle.c_machine.proofs.Means.{Shape, Straight, Looped, Level, eval_at, exec_at, wrap, flows, delivers}
 
 -- Ends --------------------------------------------------------------------------------------
@@ -101,21 +101,21 @@ module _ (level : Level) (p : List Fun) (b : ℕ) (names : Names) (cs : List Cod
   abbrev rest_of : Frame → State → Flow
   rest_of f t = flows level p b names cs f t
 
-  pub assign_flow : (x : List ℕ) (e : CExpr) (rest : Code) (other : List Code) → flows level p b names (assign x e rest ∷ cs) fr s ≡ with (value e) fr (delivers level p b names (dest.Local (position_of x names)) (rest ∷ cs) other fr)
+  pub assign_flow : (x : List ℕ) (e : CExpr) (rest : Code) (other : List Code) → flows level p b names (assign x e rest ∷ cs) fr s ≡ with (value e) fr (delivers level p b names (target.Local (position_of x names)) (rest ∷ cs) other fr)
   assign_flow x e rest other = after_with (value e) fr _ rest_of
 
-  pub call_flow : (c : CCall) (rest : Code) (other : List Code) → flows level p b names (call c rest ∷ cs) fr s ≡ with (value (expr.Call c)) fr (delivers level p b names dest.Nowhere (rest ∷ cs) other fr)
+  pub call_flow : (c : CCall) (rest : Code) (other : List Code) → flows level p b names (call c rest ∷ cs) fr s ≡ with (value (expr.Call c)) fr (delivers level p b names target.Nowhere (rest ∷ cs) other fr)
   call_flow c rest other = after_with (value (expr.Call c)) fr _ rest_of
 
-  pub return_flow : (e : CExpr) (rest : Code) (other : List Code) → flows level p b names (return e rest ∷ cs) fr s ≡ with (value e) fr (delivers level p b names dest.Caller (rest ∷ cs) other fr)
+  pub return_flow : (e : CExpr) (rest : Code) (other : List Code) → flows level p b names (return e rest ∷ cs) fr s ≡ with (value e) fr (delivers level p b names target.Caller (rest ∷ cs) other fr)
   return_flow e rest other = after_with (value e) fr _ rest_of
 
-  pub test_flow : (e : CExpr) (a c rest : Code) (at : ℕ) → flows level p b names (test e a c rest ∷ cs) fr s ≡ with (value e) fr (delivers level p b names (dest.Test at) (a ∷ rest ∷ cs) (c ∷ rest ∷ cs) fr)
+  pub test_flow : (e : CExpr) (a c rest : Code) (at : ℕ) → flows level p b names (test e a c rest ∷ cs) fr s ≡ with (value e) fr (delivers level p b names (target.Test at) (a ∷ rest ∷ cs) (c ∷ rest ∷ cs) fr)
   test_flow e a c rest at =
       let first : State → Flow = λ t. exec_at level p b names a fr t in
       let second : State → Flow = λ t. exec_at level p b names c fr t in
       let next : Frame → State → Flow = λ f t. exec_at level p b names rest f t in
       after_with (value e) fr (λ v t. after (chosen v t (first t) (second t)) next) rest_of
-      ∙ with_same (value e) fr (λ v t. after (after (chosen v t (first t) (second t)) next) rest_of) (delivers level p b names (dest.Test at) (a ∷ rest ∷ cs) (c ∷ rest ∷ cs) fr) (λ v t.
+      ∙ with_same (value e) fr (λ v t. after (after (chosen v t (first t) (second t)) next) rest_of) (delivers level p b names (target.Test at) (a ∷ rest ∷ cs) (c ∷ rest ∷ cs) fr) (λ v t.
       after_after (chosen v t (first t) (second t)) next rest_of ∙ after_chosen v t (first t) (second t) (λ f u. after (next f u) rest_of)
       )

@@ -7,7 +7,7 @@ use Rattle.c_tree.specs.Code.{Code, done, assign, call, return, test, loop}
 use Rattle.c_tree.specs.Layout.{size, flat}
 use Rattle.c_tree.specs.Pieces.{pieces}
 use Rattle.c_meaning.specs.Execution.{Names, position_of}
-use Rattle.c_machine.specs.declared.program.Dest.TheVariants as dest
+use Rattle.c_machine.specs.declared.program.Target.TheVariants as target
 use Rattle.c_machine.specs.declared.program.Instr.{Instr}
 use Rattle.c_machine.specs.declared.program.Instr.TheVariants as instr
 use Rattle.c_machine.specs.declared.program.Line.{Line}
@@ -51,13 +51,13 @@ module _ (names funs : Names) (d : Decoding) where
   code_decoded (assign x e rest) others at on end blocks ls is h =
       let p = piece.Assign x e in
       ap (decoded names funs p) (code_decoded rest others (suc at) on end blocks ls (omega (arith, is)) h)
-      ∙ put_state (expr_instr names funs (dest.Local (position_of x names)) e) at (first_of rest (suc at) on) blocks (lines names funs rest (suc at) on ls)
+      ∙ put_state (expr_instr names funs (target.Local (position_of x names)) e) at (first_of rest (suc at) on) blocks (lines names funs rest (suc at) on ls)
   code_decoded (call c rest) others at on end blocks ls is h =
       ap (decoded names funs (piece.Call c)) (code_decoded rest others (suc at) on end blocks ls (omega (arith, is)) h)
-      ∙ put_state (call_of names funs dest.Nowhere c.callee c.args) at (first_of rest (suc at) on) blocks (lines names funs rest (suc at) on ls)
+      ∙ put_state (call_of names funs target.Nowhere c.callee c.args) at (first_of rest (suc at) on) blocks (lines names funs rest (suc at) on ls)
   code_decoded (return e rest) others at on end blocks ls is h =
       ap (decoded names funs (piece.Return e)) (code_decoded rest others (suc at) on end blocks ls (omega (arith, is)) h)
-      ∙ put_state (expr_instr names funs dest.Caller e) at (first_of rest (suc at) on) blocks (lines names funs rest (suc at) on ls)
+      ∙ put_state (expr_instr names funs target.Caller e) at (first_of rest (suc at) on) blocks (lines names funs rest (suc at) on ls)
   code_decoded (test e a b rest) others at on end blocks ls is h =
       let m = suc at + size a in
       let k = m + size b in
@@ -71,7 +71,7 @@ module _ (names funs : Names) (d : Decoding) where
       let q = code_decoded b (piece.End ∷ pieces rest others) m after k (closed ∷ blocks) behind refl (ap (decoded names funs piece.End) r) in
       let p = code_decoded a (piece.Else ∷ pieces b (piece.End ∷ pieces rest others)) (suc at) after m (half ∷ blocks) both refl (ap (decoded names funs piece.Else) q) in
       ap (decoded names funs (piece.If e)) p
-      ∙ put_state (expr_instr names funs (dest.Test second) e) at (first_of a (suc at) after) blocks (lines names funs a (suc at) after both)
+      ∙ put_state (expr_instr names funs (target.Test second) e) at (first_of a (suc at) after) blocks (lines names funs a (suc at) after both)
   code_decoded (loop l body rest) others at on end blocks ls is h =
       let k = suc at + size body in
       let after = first_of rest k on in

@@ -1,6 +1,6 @@
 -- A run only adds to its output.
 use Rattle.std.proofs.Common.{◌≡◌, ℕ, zero, suc, Bool, true, false, List, [], ◌∷◌, ◌++◌, Option, Some, None, refl, sym, ap, ◌∙◌, subst, append_assoc, if◌then◌else◌, ⊎_elim}
-use Rattle.std.specs.Prelude.{ℤ, pos, negsuc, ◌==◌, codes, ◌+ℤ◌}
+use Rattle.std.specs.Prelude.{ℤ, pos, negsuc, ◌==◌, ◌+ℤ◌}
 use Rattle.std.proofs.lemmas.List.{append-nil}
 use Rattle.scheme_data.specs.Names.{is_same}
 use Rattle.scheme_data.specs.Fixnum.{is_fixnum}
@@ -16,12 +16,18 @@ use Rattle.c_tree.specs.declared.tree.CExpr.TheVariants as expr
 use Rattle.c_tree.specs.Code.{Code, done, assign, call, return, test, loop, Fun}
 use Rattle.c_meaning.specs.Word.{Word, Fixnum, False, True, Nil, Unspec, Eof, printed}
 use Rattle.c_meaning.specs.State.{Cell, AWord, ANumber, State, Frame, put, Answer, Has, Leaves, Stops, Ends, Faults, Flow, Next, Goes, Returns, Escapes, Raises, Spends, Fails, with, chosen, after, answer, take_from}
-use Rattle.c_meaning.specs.Operations.{Argument, ACell, AString, operate, fixnum_in}
+use Rattle.c_tree.specs.Operations.{wants_of}
+use Rattle.c_meaning.specs.Operations.{Argument, are_wanted, word_at, number_at, text_at, fixnum_in, stops, in_range, does, done as op_done, operate}
+use Rattle.base_io.specs.declared.end.FaultKind.TheVariants.{Tag}
+use Rattle.prim_table.specs.Errors.{number_of}
+use Rattle.prim_table.specs.declared.errors.ErrCode.TheVariants.{Range}
+use Rattle.built_table.specs.Table.{name_of}
+use Rattle.built_table.specs.declared.primitives.Primitive.{Primitive}
 use Rattle.c_meaning.specs.Execution.{Names, Lower, position_of, arguments, cells, again, iterate, looped, entry, names_of, enter, enter_any, invoke_by, eval_by, exec_by, exec, run, fun_named}
 use Rattle.c_meaning.specs.Program.{shown}
 use Rattle.c_machine.specs.declared.stepping.Frame.{Frame as Waiter}
-use Rattle.c_machine.specs.declared.program.Dest.{Dest}
-use Rattle.c_machine.specs.declared.program.Dest.TheVariants as dest
+use Rattle.c_machine.specs.declared.program.Target.{Target}
+use Rattle.c_machine.specs.declared.program.Target.TheVariants as target
 use Rattle.c_machine.specs.Steps.{Config}
 use Rattle.c_machine.proofs.Means.{Shape, Straight, Looped, Level, Inner, Outer, meant, level_in, wrap, enter_at, exec_at, flows, flow_of, delivers, names_in, shape_in, Callers, Running, Giving, Means}
 
@@ -118,18 +124,6 @@ enter_grows lower g None cs s = begins_self s.output
 enter_grows lower g (Some f) cs s =
     subst (λ (q : List ℕ). Begins s.output q) (sym (answer_grows (looped lower (names_of f) f.code (entry f cs) s))) (looped_grows lower g (names_of f) f.code (entry f cs) s)
 
-box_grows : (args : List Argument) (s : State) → Begins s.output (out_of (operate BoxLong args s))
-box_grows (ACell (ANumber n) ∷ []) s = begins_self s.output
-box_grows _ s = begins_self s.output
-
-box_truth_grows : (args : List Argument) (s : State) → Begins s.output (out_of (operate BoxBool args s))
-box_truth_grows (ACell (ANumber n) ∷ []) s = begins_self s.output
-box_truth_grows _ s = begins_self s.output
-
-truth_grows : (args : List Argument) (s : State) → Begins s.output (out_of (operate Truth args s))
-truth_grows (ACell (AWord w) ∷ []) s = begins_self s.output
-truth_grows _ s = begins_self s.output
-
 fixnum_grows : (w : Word) (s : State) → Begins s.output (out_of (fixnum_in w s))
 fixnum_grows (Fixnum n) s = begins_self s.output
 fixnum_grows False s = begins_self s.output
@@ -138,54 +132,39 @@ fixnum_grows Nil s = begins_self s.output
 fixnum_grows Unspec s = begins_self s.output
 fixnum_grows Eof s = begins_self s.output
 
-unbox_grows : (args : List Argument) (s : State) → Begins s.output (out_of (operate UnboxLong args s))
-unbox_grows (ACell (AWord w) ∷ []) s = fixnum_grows w s
-unbox_grows _ s = begins_self s.output
+stops_grows : (n : ℤ) (text : List ℕ) (s : State) → Begins s.output (out_of (stops n text s))
+stops_grows (pos code) text s = begins_self s.output
+stops_grows (negsuc n) text s = begins_self s.output
 
-raise_grows : (args : List Argument) (s : State) → Begins s.output (out_of (operate Raise args s))
-raise_grows (ACell (ANumber (pos code)) ∷ AString text ∷ []) s = begins_self s.output
-raise_grows _ s = begins_self s.output
+range_grows : (p : Primitive) (n : ℤ) (s : State) → Begins s.output (out_of (in_range p n s))
+range_grows p n s = by (is_fixnum n)
+  where
+    by : (b : Bool) → Begins s.output (out_of (if b then Has (ANumber n) s else Stops (number_of Range) (name_of p) s))
+    by true = begins_self s.output
+    by false = begins_self s.output
 
-args_grows : (args : List Argument) (s : State) → Begins s.output (out_of (operate Args args s))
-args_grows [] s = begins_self s.output
-args_grows _ s = begins_self s.output
+does_grows : (p : Primitive) (args : List Argument) (s : State) → Begins s.output (out_of (does p args s))
+does_grows Add args s = range_grows Add (number_at args 0 +ℤ number_at args 1) s
+does_grows Less args s = begins_self s.output
+does_grows Display args s = (printed (word_at args 0), refl)
+does_grows Newline args s = (10 ∷ [], refl)
 
-status_grows : (args : List Argument) (s : State) → Begins s.output (out_of (operate Status args s))
-status_grows (ACell (AWord w) ∷ []) s = begins_self s.output
-status_grows _ s = begins_self s.output
-
-sum_grows : (b : Bool) (n : ℤ) (s : State) → Begins s.output (out_of (if b then Has (ANumber n) s else Stops 3 (codes "+") s))
-sum_grows true n s = begins_self s.output
-sum_grows false n s = begins_self s.output
-
-add_grows : (args : List Argument) (s : State) → Begins s.output (out_of (operate (Prim_op Add) args s))
-add_grows (ACell (ANumber a) ∷ ACell (ANumber b) ∷ []) s = sum_grows (is_fixnum (a +ℤ b)) (a +ℤ b) s
-add_grows _ s = begins_self s.output
-
-less_grows : (args : List Argument) (s : State) → Begins s.output (out_of (operate (Prim_op Less) args s))
-less_grows (ACell (ANumber a) ∷ ACell (ANumber b) ∷ []) s = begins_self s.output
-less_grows _ s = begins_self s.output
-
-display_grows : (args : List Argument) (s : State) → Begins s.output (out_of (operate (Prim_op Display) args s))
-display_grows (ACell (AWord w) ∷ []) s = (printed w, refl)
-display_grows _ s = begins_self s.output
-
-newline_grows : (args : List Argument) (s : State) → Begins s.output (out_of (operate (Prim_op Newline) args s))
-newline_grows [] s = (10 ∷ [], refl)
-newline_grows _ s = begins_self s.output
+done_grows : (op : Op) (args : List Argument) (s : State) → Begins s.output (out_of (op_done op args s))
+done_grows BoxLong args s = begins_self s.output
+done_grows BoxBool args s = begins_self s.output
+done_grows UnboxLong args s = fixnum_grows (word_at args 0) s
+done_grows Truth args s = begins_self s.output
+done_grows Raise args s = stops_grows (number_at args 0) (text_at args 1) s
+done_grows Args args s = begins_self s.output
+done_grows Status args s = begins_self s.output
+done_grows (Prim_op p) args s = does_grows p args s
 
 operate_grows : (op : Op) (args : List Argument) (s : State) → Begins s.output (out_of (operate op args s))
-operate_grows BoxLong args s = box_grows args s
-operate_grows BoxBool args s = box_truth_grows args s
-operate_grows UnboxLong args s = unbox_grows args s
-operate_grows Truth args s = truth_grows args s
-operate_grows Raise args s = raise_grows args s
-operate_grows Args args s = args_grows args s
-operate_grows Status args s = status_grows args s
-operate_grows (Prim_op Add) args s = add_grows args s
-operate_grows (Prim_op Less) args s = less_grows args s
-operate_grows (Prim_op Display) args s = display_grows args s
-operate_grows (Prim_op Newline) args s = newline_grows args s
+operate_grows op args s = by (are_wanted (wants_of op) args)
+  where
+    by : (b : Bool) → Begins s.output (out_of (if b then op_done op args s else Faults Tag s))
+    by true = done_grows op args s
+    by false = begins_self s.output
 
 abbrev CalledGrows : (Option Fun → List Cell → State → Answer) → Type 0
 CalledGrows called = (o : Option Fun) (cs : List Cell) (s : State) → Begins s.output (out_of (called o cs s))
@@ -237,11 +216,11 @@ flows_grow level p b names [] fr s = begins_self s.output
 flows_grow level p b names (c ∷ cs) fr s =
     after_grows s.output (exec_at level p b names c fr s) (λ fr1 s1. flows level p b names cs fr1 s1) (exec_grows p (enter_at level p b) (run p b) (at_grows level p b) (run_grows p b) names c fr s) (λ fr1 s1. flows_grow level p b names cs fr1 s1)
 
-delivers_grows : (level : Level) (p : List Fun) (b : ℕ) (names : Names) (to : Dest) (left other : List Code) (fr : Frame) (c : Cell) (s : State) → Begins s.output (out (delivers level p b names to left other fr c s))
-delivers_grows level p b names (dest.Local x) left other fr c s = flows_grow level p b names left (put x c fr) s
-delivers_grows level p b names dest.Nowhere left other fr c s = flows_grow level p b names left fr s
-delivers_grows level p b names dest.Caller left other fr c s = begins_self s.output
-delivers_grows level p b names (dest.Test at) left other fr c s =
+delivers_grows : (level : Level) (p : List Fun) (b : ℕ) (names : Names) (to : Target) (left other : List Code) (fr : Frame) (c : Cell) (s : State) → Begins s.output (out (delivers level p b names to left other fr c s))
+delivers_grows level p b names (target.Local x) left other fr c s = flows_grow level p b names left (put x c fr) s
+delivers_grows level p b names target.Nowhere left other fr c s = flows_grow level p b names left fr s
+delivers_grows level p b names target.Caller left other fr c s = begins_self s.output
+delivers_grows level p b names (target.Test at) left other fr c s =
     chosen_grows c s (flows level p b names left fr s) (flows level p b names other fr s) (flows_grow level p b names left fr s) (flows_grow level p b names other fr s)
 
 shown_grows : (x : Flow) → (shown x).output ≡ out x

@@ -6,7 +6,7 @@ use Rattle.c_tree.specs.Code.{Code, done, assign, call, return, test, loop}
 use Rattle.c_tree.specs.Layout.{size}
 use Rattle.c_meaning.specs.Execution.{Names, position_of}
 use Rattle.c_meaning.specs.Checked.{Signature, code_fits}
-use Rattle.c_machine.specs.declared.program.Dest.TheVariants as dest
+use Rattle.c_machine.specs.declared.program.Target.TheVariants as target
 use Rattle.c_machine.specs.declared.program.Instr.{Instr}
 use Rattle.c_machine.specs.declared.program.Instr.TheVariants as instr
 use Rattle.c_machine.specs.declared.program.Line.{Line}
@@ -61,7 +61,7 @@ module _ (names funs : Names) (code : List Line) where
   lines_lead done at on others h le = record { leads = refl; rest = ended_at at (at + 0) others h (omega arith) }
   lines_lead (assign x e rest) at on others h le =
       let next = first_of rest (suc at) on in
-      let f = front code at (line (expr_instr names funs (dest.Local (position_of x names)) e) next) (lines names funs rest (suc at) on others) h in
+      let f = front code at (line (expr_instr names funs (target.Local (position_of x names)) e) next) (lines names funs rest (suc at) on others) h in
       let r = lines_lead rest (suc at) on others f.rest (omega arith) in
       let ahead = first_from rest (suc at) on (omega arith) in
       record {
@@ -70,7 +70,7 @@ module _ (names funs : Names) (code : List Line) where
       }
   lines_lead (call c rest) at on others h le =
       let next = first_of rest (suc at) on in
-      let f = front code at (line (call_of names funs dest.Nowhere c.callee c.args) next) (lines names funs rest (suc at) on others) h in
+      let f = front code at (line (call_of names funs target.Nowhere c.callee c.args) next) (lines names funs rest (suc at) on others) h in
       let r = lines_lead rest (suc at) on others f.rest (omega arith) in
       let ahead = first_from rest (suc at) on (omega arith) in
       record {
@@ -79,7 +79,7 @@ module _ (names funs : Names) (code : List Line) where
       }
   lines_lead (return e rest) at on others h le =
       let next = first_of rest (suc at) on in
-      let f = front code at (line (expr_instr names funs dest.Caller e) next) (lines names funs rest (suc at) on others) h in
+      let f = front code at (line (expr_instr names funs target.Caller e) next) (lines names funs rest (suc at) on others) h in
       let r = lines_lead rest (suc at) on others f.rest (omega arith) in
       let ahead = first_from rest (suc at) on (omega arith) in
       record {
@@ -94,7 +94,7 @@ module _ (names funs : Names) (code : List Line) where
       let next = first_of a (suc at) after in
       let behind = lines names funs rest k on others in
       let second = lines names funs b m after behind in
-      let f = front code at (line (expr_instr names funs (dest.Test other) e) next) (lines names funs a (suc at) after second) h in
+      let f = front code at (line (expr_instr names funs (target.Test other) e) next) (lines names funs a (suc at) after second) h in
       let far = first_from rest k on (omega arith) in
       let p = lines_lead a (suc at) after second f.rest (omega (arith, far)) in
       let q = lines_lead b m after behind p.rest (omega (arith, far)) in

@@ -14,8 +14,8 @@ use Rattle.c_meaning.specs.State.{Cell, State, Frame, put, Answer, Flow, Next, R
 use Rattle.c_meaning.specs.Execution.{Names, position_of, again, enter, enter_any, eval_by, exec_by, run, fun_named}
 use Rattle.c_meaning.specs.Program.{shown}
 use Rattle.c_meaning.specs.Checked.{Role, Main, Maker, Initializer, Function as Module_function, role_of, Signature, signature_named, code_fits}
-use Rattle.c_machine.specs.declared.program.Dest.{Dest}
-use Rattle.c_machine.specs.declared.program.Dest.TheVariants as dest
+use Rattle.c_machine.specs.declared.program.Target.{Target}
+use Rattle.c_machine.specs.declared.program.Target.TheVariants as target
 use Rattle.c_machine.specs.declared.program.Instr.{Instr}
 use Rattle.c_machine.specs.declared.program.Instr.TheVariants as instr
 use Rattle.c_machine.specs.declared.program.Line.{Line}
@@ -117,14 +117,14 @@ AllTyped fs place = (k : ℕ) (f : CFun) → slice_get fs k ≡ Some f → Typed
 -- Places ------------------------------------------------------------------------------------
 
 -- the nearest place where a function may go on after an instruction
-abbrev pub nearest : Dest → ℕ → ℕ
-nearest (dest.Local x) next = next
-nearest dest.Nowhere next = next
-nearest dest.Caller next = next
-nearest (dest.Test other) next = min other next
+abbrev pub nearest : Target → ℕ → ℕ
+nearest (target.Local x) next = next
+nearest target.Nowhere next = next
+nearest target.Caller next = next
+nearest (target.Test other) next = min other next
 
 -- an instruction stands at a place, and the function goes on ahead of it
-pub record Stepping (code : List Line) (at : ℕ) (to : Dest) (i : Instr) (next : ℕ) : Type 0 where
+pub record Stepping (code : List Line) (at : ℕ) (to : Target) (i : Instr) (next : ℕ) : Type 0 where
   pub there : slice_get code at ≡ Some (line i next)
   pub ahead : at < nearest to next
 
@@ -133,11 +133,11 @@ module _ (names funs : Names) (code : List Line) where
   unfoldable pub Leads : Code → ℕ → ℕ → Type 0
   Leads done at on = at ≡ on
   Leads (assign x e rest) at on =
-      (next : ℕ) × Stepping code at (dest.Local (position_of x names)) (expr_instr names funs (dest.Local (position_of x names)) e) next × Leads rest next on
-  Leads (call c rest) at on = (next : ℕ) × Stepping code at dest.Nowhere (call_of names funs dest.Nowhere c.callee c.args) next × Leads rest next on
-  Leads (return e rest) at on = (next : ℕ) × Stepping code at dest.Caller (expr_instr names funs dest.Caller e) next × Leads rest next on
+      (next : ℕ) × Stepping code at (target.Local (position_of x names)) (expr_instr names funs (target.Local (position_of x names)) e) next × Leads rest next on
+  Leads (call c rest) at on = (next : ℕ) × Stepping code at target.Nowhere (call_of names funs target.Nowhere c.callee c.args) next × Leads rest next on
+  Leads (return e rest) at on = (next : ℕ) × Stepping code at target.Caller (expr_instr names funs target.Caller e) next × Leads rest next on
   Leads (test e a b rest) at on =
-      (next : ℕ) × (other : ℕ) × (after : ℕ) × Stepping code at (dest.Test other) (expr_instr names funs (dest.Test other) e) next
+      (next : ℕ) × (other : ℕ) × (after : ℕ) × Stepping code at (target.Test other) (expr_instr names funs (target.Test other) e) next
       × Leads a next after × Leads b other after × Leads rest after on
   Leads (loop l body rest) at on = Unit {0}
 
@@ -179,18 +179,18 @@ abbrev pub flow_of : List Fun → ℕ → CFun → List Code → Frame → State
 flow_of p b f left fr s = wrap p b (names_in f) (shape_in f) (flows (level_in f) p b (names_in f) left fr s)
 
 -- what is done with a value, where one of two is left
-abbrev pub delivers : Level → List Fun → ℕ → Names → Dest → List Code → List Code → Frame → Cell → State → Flow
-delivers level p b names (dest.Local x) left other fr c s = flows level p b names left (put x c fr) s
-delivers level p b names dest.Nowhere left other fr c s = flows level p b names left fr s
-delivers level p b names dest.Caller left other fr c s = Returns c s
-delivers level p b names (dest.Test at) left other fr c s = chosen c s (flows level p b names left fr s) (flows level p b names other fr s)
+abbrev pub delivers : Level → List Fun → ℕ → Names → Target → List Code → List Code → Frame → Cell → State → Flow
+delivers level p b names (target.Local x) left other fr c s = flows level p b names left (put x c fr) s
+delivers level p b names target.Nowhere left other fr c s = flows level p b names left fr s
+delivers level p b names target.Caller left other fr c s = Returns c s
+delivers level p b names (target.Test at) left other fr c s = chosen c s (flows level p b names left fr s) (flows level p b names other fr s)
 
 -- a place that a value of this type may go to
-abbrev pub DestFits : List CVar → CTy → CTy → Dest → Type 0
-DestFits vars result t (dest.Local x) = (v : CVar) × (slice_get vars x ≡ Some v) × (t ≡ v.ty)
-DestFits vars result t dest.Nowhere = Unit {0}
-DestFits vars result t dest.Caller = t ≡ result
-DestFits vars result t (dest.Test at) = t ≡ Int
+abbrev pub TargetFits : List CVar → CTy → CTy → Target → Type 0
+TargetFits vars result t (target.Local x) = (v : CVar) × (slice_get vars x ≡ Some v) × (t ≡ v.ty)
+TargetFits vars result t target.Nowhere = Unit {0}
+TargetFits vars result t target.Caller = t ≡ result
+TargetFits vars result t (target.Test at) = t ≡ Int
 
 -- States ------------------------------------------------------------------------------------
 
@@ -208,11 +208,11 @@ module _ (fs : List CFun) (place : List ℕ → ℕ) where
     pub holds : Holds (variables_of f) fr env
 
   -- where a value may choose, other pieces are left at another place
-  abbrev pub Forks : Dest → ℕ → CFun → List Code → Frame → List ℕ → Type 0
-  Forks (dest.Local x) k f other fr env = Unit {0}
-  Forks dest.Nowhere k f other fr env = Unit {0}
-  Forks dest.Caller k f other fr env = Unit {0}
-  Forks (dest.Test at) k f other fr env = Stands k at f other fr env
+  abbrev pub Forks : Target → ℕ → CFun → List Code → Frame → List ℕ → Type 0
+  Forks (target.Local x) k f other fr env = Unit {0}
+  Forks target.Nowhere k f other fr env = Unit {0}
+  Forks target.Caller k f other fr env = Unit {0}
+  Forks (target.Test at) k f other fr env = Stands k at f other fr env
 
   -- a function that waits for the value of a call of another
   pub record Waits (r : Waiter) (below : List ℕ) (turns : ℕ) (callee : CFun) (k : Flow → Observation) : Type 0 where
@@ -230,7 +230,7 @@ module _ (fs : List CFun) (place : List ℕ → ℕ) where
     pub base : r.base ≡ length under
     pub enough : turns ≤ bound
     pub inner : level_in callee ≡ Inner
-    pub fits : DestFits (variables_of fun) fun.result callee.result r.to
+    pub fits : TargetFits (variables_of fun) fun.result callee.result r.to
     pub whole : (x : Flow) → k x ≡ outer (wrap (meant fs) bound (names_in fun) (shape_in fun) (with (answer x) frame (delivers (level_in fun) (meant fs) bound (names_in fun) r.to left other frame)))
 
   -- what the functions that wait make of the end of the one that runs

@@ -4,7 +4,7 @@ use Rattle.std.specs.Prelude.{nat_lt, nat_eq, ℤ, pos, negsuc}
 use Rattle.std.proofs.lemmas.Bool.{ltb-true, lt-ltb, le-ltb, eq-eqb, ne_eqb}
 use Rattle.scheme_data.specs.Decimal.{number_text}
 use Rattle.scheme_data.specs.Fixnum.{IsFixnum, long_word, fixnum_word}
-use Rattle.c_meaning.specs.Word.{Word, Fixnum, False, True, Nil, Unspec, Eof, number_of, printed}
+use Rattle.c_meaning.specs.Word.{Word, Fixnum, False, True, Nil, Unspec, Eof, bits_of, printed}
 use Rattle.c_meaning.specs.Operations.{status_in}
 use Rattle.c_meaning.specs.Checked.{is_byte}
 use Rattle.c_machine.specs.Words.{long_of, fixnum_of, word_text, byte_of, status_of, constant_text}
@@ -49,7 +49,7 @@ fixnum_tag (negsuc n) h =
     let e : w % 8 ≡ 0 = omega arith in
     eq-eqb (w % 8) 0 e
 
-pub fixnum_no_constant : (z : ℤ) → IsFixnum z → nat_eq (fixnum_word z) 3 ≡ false
+pub fixnum_no_constant : (z : ℤ) → IsFixnum z → nat_eq (fixnum_word z) (bits_of False) ≡ false
 fixnum_no_constant (pos n) h = ne_eqb (8 * n) 3 (omega arith)
 fixnum_no_constant (negsuc n) h =
     let lt = ltb-true n (2 ^ 60) h in
@@ -64,7 +64,7 @@ WordFits Nil = Unit {0}
 WordFits Unspec = Unit {0}
 WordFits Eof = Unit {0}
 
-pub word_text_is : (w : Word) → WordFits w → word_text (number_of w) ≡ printed w
+pub word_text_is : (w : Word) → WordFits w → word_text (bits_of w) ≡ printed w
 word_text_is (Fixnum z) h = when_true (nat_eq (fixnum_word z % 8) 0) (number_text (fixnum_of (fixnum_word z))) (constant_text (fixnum_word z)) (fixnum_tag z h) ∙ ap number_text (fixnum_back z h)
 word_text_is False h = refl
 word_text_is True h = refl
@@ -76,7 +76,7 @@ byte_is : (z : ℤ) → byte_of z ≡ status_in (Fixnum z)
 byte_is (pos n) = refl
 byte_is (negsuc n) = refl
 
-pub status_is : (w : Word) → WordFits w → status_of (number_of w) ≡ status_in w
+pub status_is : (w : Word) → WordFits w → status_of (bits_of w) ≡ status_in w
 status_is (Fixnum z) h = when_true (nat_eq (fixnum_word z % 8) 0) (byte_of (fixnum_of (fixnum_word z))) 0 (fixnum_tag z h) ∙ ap byte_of (fixnum_back z h) ∙ byte_is z
 status_is False h = refl
 status_is True h = refl

@@ -1,10 +1,15 @@
 -- Each operation gives what its action gives.
-use Rattle.std.proofs.Common.{◌≡◌, ℕ, ◌<◌, ◌%◌, Bool, true, false, List, [], ◌∷◌, ◌++◌, length, refl, sym, ap, subst, ◌∙◌, if◌then◌else◌, arith}
-use Rattle.std.specs.Prelude.{ℤ, pos, negsuc, ◌+ℤ◌, int_lt, codes, nat_lt, nat_le, nat_eq}
+use Rattle.std.proofs.Common.{◌≡◌, ℕ, ◌<◌, ◌≤◌, ◌%◌, Bool, true, false, List, [], ◌∷◌, ◌++◌, length, refl, sym, ap, subst, ◌∙◌, if◌then◌else◌, arith}
+use Rattle.std.specs.Prelude.{ℤ, pos, negsuc, ◌+ℤ◌, int_lt, nat_lt, nat_le, nat_eq}
 use Rattle.std.proofs.lemmas.List.{append-nil}
 use Rattle.std.proofs.lemmas.Bool.{and_parts, leb-true, lt-ltb}
 use Rattle.scheme_data.specs.Fixnum.{IsFixnum, is_fixnum, long_word, fixnum_word}
 use Rattle.base_io.specs.declared.end.End.TheVariants.{Raised}
+use Rattle.prim_table.specs.Errors.{number_of}
+use Rattle.prim_table.specs.declared.errors.ErrCode.TheVariants.{WrongType, Range, ZeroDivisor}
+use Rattle.built_table.specs.Table.{name_of, type_name}
+use Rattle.built_table.specs.declared.primitives.Ty.TheVariants as types
+use Rattle.built_table.specs.declared.primitives.Primitive.{Primitive}
 use Rattle.built_table.specs.declared.primitives.Primitive.TheVariants.{Add, Less, Display, Newline}
 use Rattle.c_tree.specs.declared.op.Op.{Op}
 use Rattle.c_tree.specs.declared.op.Op.TheVariants.{BoxLong, BoxBool, UnboxLong, Truth, Raise, Args, Status, Primitive as Prim_op}
@@ -15,14 +20,16 @@ use Rattle.c_tree.specs.declared.tree.CAtom.TheVariants as atoms
 use Rattle.c_tree.specs.declared.tree.CArg.{CArg}
 use Rattle.c_tree.specs.declared.tree.CArg.TheVariants as arg
 use Rattle.c_tree.specs.declared.tree.CVar.{CVar}
-use Rattle.c_meaning.specs.Word.{Word, Fixnum, False, True, Nil, Unspec, Eof, number_of}
+use Rattle.c_tree.specs.declared.op.Wants.TheVariants.{AType, AnError, AText}
+use Rattle.c_tree.specs.Operations.{wants_of, gives_of}
+use Rattle.c_meaning.specs.Word.{Word, Fixnum, False, True, Nil, Unspec, Eof, bits_of}
 use Rattle.c_meaning.specs.State.{Cell, AWord, ANumber, State, Frame, Answer, Has, Leaves, Stops, Ends, Faults}
 use Rattle.c_meaning.specs.Operations.{ACell, operate, print, fixnum_in, in_range, is_true, truth_word, truth_number}
 use Rattle.c_meaning.specs.Execution.{atom, arguments}
-use Rattle.c_meaning.specs.Checked.{AType, AnError, AText, wants_of, gives_of, argument_fits, arguments_fit, atom_fits, is_byte}
+use Rattle.c_meaning.specs.Checked.{argument_fits, arguments_fit, atom_fits, is_byte}
 use Rattle.c_machine.specs.declared.program.Action.{Action}
 use Rattle.c_machine.specs.Words.{long_of, fixnum_of, word_text, byte_of, status_of, truth_of, boxed_truth_of, less_of}
-use Rattle.c_machine.specs.Steps.{look, NeedsAction, Gave, Gives, Quits, performed, sum_of, unboxed_of}
+use Rattle.c_machine.specs.Steps.{look, NeedsAction, Gave, Gives, Quits, performed, ranged, unboxed_of}
 use Rattle.c_machine.specs.Decoded.{operand_of, action_of, variable_names}
 use Rattle.c_machine.proofs.Numbers.{WordFits, long_back, fixnum_back, fixnum_tag, word_text_is, status_is, status_byte, fixnum_no_constant, when_true, when_false}
 use Rattle.c_machine.proofs.Typing.{Slot, Holds, atom_reading}
@@ -88,7 +95,9 @@ text_arg vars (arg.Atom a ∷ others) h = absurd (cc)
 text_arg vars (arg.Str text ∷ others) h = (text, ap (λ l. arg.Str text ∷ l) (no_args vars others h))
 
 raise_atom : (vars : List CVar) (a : CAtom) → argument_fits vars AnError (arg.Atom a) ≡ true → (code : ℕ) × (a ≡ atoms.Int (pos code)) × (code < 256)
-raise_atom vars (atoms.Int (pos n)) h = let p = and_parts (nat_le 1 n) (nat_le n 10) h in let le = leb-true n 10 p.1 in (n, refl, omega arith)
+raise_atom vars (atoms.Int (pos n)) h =
+    let p = and_parts (nat_le (number_of WrongType) n) (nat_le n (number_of ZeroDivisor)) h in
+    let le : n ≤ 10 = leb-true n (number_of ZeroDivisor) p.1 in (n, refl, omega arith)
 raise_atom vars (atoms.Int (negsuc n)) h = absurd (cc)
 raise_atom vars (atoms.Name x) h = absurd (cc)
 raise_atom vars atoms.False h = absurd (cc)
@@ -124,7 +133,7 @@ boxed_truth_same (AWord w) s v h = absurd h.fits
 boxed_truth_same (ANumber (negsuc n)) s v h = absurd (let no = h.fits in cc)
 boxed_truth_same (ANumber (pos n)) s v h = subst (λ (u : ℕ). Matches Obj s (Gives (boxed_truth_of u) []) (operate BoxBool (ACell (ANumber (pos n)) ∷ []) s)) (sym h.is) (each (nat_eq n 0), print_nothing s)
   where
-    each : (b : Bool) → Slot Obj (AWord (truth_word (if b then false else true))) (if b then 3 else 11)
+    each : (b : Bool) → Slot Obj (AWord (truth_word (if b then false else true))) (if b then bits_of False else bits_of True)
     each true = record { fits = tt; is = refl }
     each false = record { fits = tt; is = refl }
 
@@ -140,8 +149,8 @@ truth_same (AWord w) s v h = (record { fits = number w; is = ap truth_of h.is �
     number Unspec = refl
     number Eof = refl
 
-    each : (w : Word) → WordFits w → truth_of (number_of w) ≡ long_word (truth_number (is_true w))
-    each (Fixnum z) f = when_false (nat_eq (fixnum_word z) 3) 0 1 (fixnum_no_constant z f)
+    each : (w : Word) → WordFits w → truth_of (bits_of w) ≡ long_word (truth_number (is_true w))
+    each (Fixnum z) f = when_false (nat_eq (fixnum_word z) (bits_of False)) 0 1 (fixnum_no_constant z f)
     each False f = refl
     each True f = refl
     each Nil f = refl
@@ -152,9 +161,9 @@ unboxed_same : (c : Cell) (s : State) (v : ℕ) → Slot Obj c v → Matches Lon
 unboxed_same (ANumber z) s v h = absurd h.fits
 unboxed_same (AWord w) s v h = subst (λ (u : ℕ). Matches Long s (unboxed_of u) (fixnum_in w s)) (sym h.is) (each w h.fits)
   where
-    each : (w : Word) → WordFits w → Matches Long s (unboxed_of (number_of w)) (fixnum_in w s)
+    each : (w : Word) → WordFits w → Matches Long s (unboxed_of (bits_of w)) (fixnum_in w s)
     each (Fixnum z) f =
-        subst (λ (g : Gave). Matches Long s g (Has (ANumber z) s)) (sym (when_true (nat_eq (fixnum_word z % 8) 0) (Gives (long_word (fixnum_of (fixnum_word z))) []) (Quits (Raised 1 (codes "long"))) (fixnum_tag z f)))
+        subst (λ (g : Gave). Matches Long s g (Has (ANumber z) s)) (sym (when_true (nat_eq (fixnum_word z % 8) 0) (Gives (long_word (fixnum_of (fixnum_word z))) []) (Quits (Raised (number_of WrongType) (type_name types.Long))) (fixnum_tag z f)))
         (record { fits = f; is = ap long_word (fixnum_back z f) }, print_nothing s)
     each False f = (refl, refl)
     each True f = (refl, refl)
@@ -166,11 +175,14 @@ status_same : (c : Cell) (s : State) (v : ℕ) → Slot Obj c v → Matches Int 
 status_same (ANumber z) s v h = absurd h.fits
 status_same (AWord w) s v h = (record { fits = status_byte w; is = ap status_of h.is ∙ status_is w h.fits }, print_nothing s)
 
-sum_same : (z : ℤ) (s : State) (b : Bool) → is_fixnum z ≡ b → Matches Long s (if b then Gives (long_word z) [] else Quits (Raised 3 (codes "+"))) (if b then Has (ANumber z) s else Stops 3 (codes "+") s)
-sum_same z s true e = (record { fits = e; is = refl }, print_nothing s)
-sum_same z s false e = (refl, refl)
+ranged_same : (p : Primitive) (z : ℤ) (s : State) → Matches Long s (ranged p z) (in_range p z s)
+ranged_same p z s = by (is_fixnum z) refl
+  where
+    by : (b : Bool) → is_fixnum z ≡ b → Matches Long s (if b then Gives (long_word z) [] else Quits (Raised (number_of Range) (name_of p))) (if b then Has (ANumber z) s else Stops (number_of Range) (name_of p) s)
+    by true e = (record { fits = e; is = refl }, print_nothing s)
+    by false e = (refl, refl)
 
-added_same : (c d : Cell) (s : State) (v w : ℕ) → Slot Long c v → Slot Long d w → (IsFixnum (long_of v)) × (IsFixnum (long_of w)) × Matches Long s (sum_of (long_of v +ℤ long_of w)) (operate (Prim_op Add) (ACell c ∷ ACell d ∷ []) s)
+added_same : (c d : Cell) (s : State) (v w : ℕ) → Slot Long c v → Slot Long d w → (IsFixnum (long_of v)) × (IsFixnum (long_of w)) × Matches Long s (ranged Add (long_of v +ℤ long_of w)) (operate (Prim_op Add) (ACell c ∷ ACell d ∷ []) s)
 added_same (AWord x) d s v w h i = absurd h.fits
 added_same (ANumber y) (AWord x) s v w h i = absurd i.fits
 added_same (ANumber y) (ANumber z) s v w h i =
@@ -179,23 +191,23 @@ added_same (ANumber y) (ANumber z) s v w h i =
     let both : long_of v +ℤ long_of w ≡ y +ℤ z = ap (λ (x : ℤ). x +ℤ long_of w) left ∙ ap (λ (x : ℤ). y +ℤ x) right in (
       subst IsFixnum (sym left) h.fits,
       subst IsFixnum (sym right) i.fits,
-      subst (λ (n : ℤ). Matches Long s (sum_of n) (in_range (y +ℤ z) (codes "+") s)) (sym both) (sum_same (y +ℤ z) s (is_fixnum (y +ℤ z)) refl),
+      subst (λ (n : ℤ). Matches Long s (ranged Add n) (in_range Add (y +ℤ z) s)) (sym both) (ranged_same Add (y +ℤ z) s),
     )
 
-less_same : (c d : Cell) (s : State) (v w : ℕ) → Slot Long c v → Slot Long d w → Matches Int s (Gives (less_of (long_of v) (long_of w)) []) (operate (Prim_op Less) (ACell c ∷ ACell d ∷ []) s)
+less_same : (c d : Cell) (s : State) (v w : ℕ) → Slot Long c v → Slot Long d w → (IsFixnum (long_of v)) × (IsFixnum (long_of w)) × Matches Int s (Gives (less_of (long_of v) (long_of w)) []) (operate (Prim_op Less) (ACell c ∷ ACell d ∷ []) s)
 less_same (AWord x) d s v w h i = absurd h.fits
 less_same (ANumber y) (AWord x) s v w h i = absurd i.fits
 less_same (ANumber y) (ANumber z) s v w h i =
     let left : long_of v ≡ y = ap long_of h.is ∙ long_back y h.fits in
     let right : long_of w ≡ z = ap long_of i.is ∙ long_back z i.fits in
     let both : less_of (long_of v) (long_of w) ≡ less_of y z = ap (λ (x : ℤ). less_of x (long_of w)) left ∙ ap (λ (x : ℤ). less_of y x) right in
-    (subst (λ (u : ℕ). Slot Int (ANumber (truth_number (int_lt y z))) u) (sym both) (each (int_lt y z)), print_nothing s)
+    (subst IsFixnum (sym left) h.fits, subst IsFixnum (sym right) i.fits, (subst (λ (u : ℕ). Slot Int (ANumber (truth_number (int_lt y z))) u) (sym both) (each (int_lt y z)), print_nothing s))
   where
     each : (b : Bool) → Slot Int (ANumber (truth_number b)) (if b then 1 else 0)
     each true = record { fits = refl; is = refl }
     each false = record { fits = refl; is = refl }
 
-shown_same : (c : Cell) (s : State) (v : ℕ) → Slot Obj c v → Matches Obj s (Gives 27 (word_text v)) (operate (Prim_op Display) (ACell c ∷ []) s)
+shown_same : (c : Cell) (s : State) (v : ℕ) → Slot Obj c v → Matches Obj s (Gives (bits_of Unspec) (word_text v)) (operate (Prim_op Display) (ACell c ∷ []) s)
 shown_same (ANumber z) s v h = absurd h.fits
 shown_same (AWord w) s v h = (record { fits = tt; is = refl }, ap (λ (t : List ℕ). print t s) (sym (ap word_text h.is ∙ word_text_is w h.fits)))
 
@@ -238,7 +250,7 @@ module _ (vars : List CVar) (f : Frame) (below env : List ℕ) (s : State) (hs :
       let slots = below ++ env in
       let names = variable_names vars in
       let d = added_same (atom names f a.first) (atom names f a.second) s (look base slots (operand_of names a.first)) (look base slots (operand_of names a.second)) q.slot r.slot in
-      subst (Done (Prim_op Add)) (sym a.is) (record { needs = ((q.reads, d.0), (r.reads, d.1)); same = d.2 })
+      subst (Done (Prim_op Add)) (sym a.is) (record { needs = ((q.reads, d.0), ((r.reads, d.1), tt)); same = d.2 })
   operated (Prim_op Less) args h =
       let a = two_args vars Long Long args h in
       let q = atom_reading vars f below env Long a.first a.fits hs in
@@ -246,9 +258,10 @@ module _ (vars : List CVar) (f : Frame) (below env : List ℕ) (s : State) (hs :
       let base = length below in
       let slots = below ++ env in
       let names = variable_names vars in
-      subst (Done (Prim_op Less)) (sym a.is) (record { needs = (q.reads, r.reads); same = less_same (atom names f a.first) (atom names f a.second) s (look base slots (operand_of names a.first)) (look base slots (operand_of names a.second)) q.slot r.slot })
+      let d = less_same (atom names f a.first) (atom names f a.second) s (look base slots (operand_of names a.first)) (look base slots (operand_of names a.second)) q.slot r.slot in
+      subst (Done (Prim_op Less)) (sym a.is) (record { needs = ((q.reads, d.0), ((r.reads, d.1), tt)); same = d.2 })
   operated (Prim_op Display) args h =
       let a = one_arg vars Obj args h in
       let r = atom_reading vars f below env Obj a.first a.fits hs in
-      subst (Done (Prim_op Display)) (sym a.is) (record { needs = r.reads; same = shown_same (atom (variable_names vars) f a.first) s (look (length below) (below ++ env) (operand_of (variable_names vars) a.first)) r.slot })
+      subst (Done (Prim_op Display)) (sym a.is) (record { needs = (r.reads, tt); same = shown_same (atom (variable_names vars) f a.first) s (look (length below) (below ++ env) (operand_of (variable_names vars) a.first)) r.slot })
   operated (Prim_op Newline) args h = subst (Done (Prim_op Newline)) (sym (no_args vars args h)) (record { needs = tt; same = (record { fits = tt; is = refl }, refl) })

@@ -12,7 +12,7 @@ use Rattle.base_io.specs.Observation.{Observation}
 use Rattle.c_tree.specs.declared.tree.CTy.{CTy}
 use Rattle.c_tree.specs.declared.tree.CTy.TheVariants.{Int}
 use Rattle.c_tree.specs.declared.tree.CArg.{CArg}
-use Rattle.c_tree.specs.declared.tree.Callee.{Callee as Target}
+use Rattle.c_tree.specs.declared.tree.Callee.{Callee as Named}
 use Rattle.c_tree.specs.declared.tree.Callee.TheVariants as callee
 use Rattle.c_tree.specs.declared.tree.CCall.{CCall}
 use Rattle.c_tree.specs.declared.tree.CExpr.{CExpr}
@@ -25,18 +25,20 @@ use Rattle.c_meaning.specs.State.{Cell, AWord, ANumber, State, Frame, put, Answe
 use Rattle.c_meaning.specs.Operations.{print, operate}
 use Rattle.c_meaning.specs.Execution.{position_of, atom, arguments, cells, again, iterate, looped, entry, invoke_by, exec, run, fun_named}
 use Rattle.c_meaning.specs.Program.{shown, end_of}
-use Rattle.c_meaning.specs.Checked.{Signature, signature_named, code_fits, AType, arguments_fit, call_fits_signature, call_type, is_the_type, has_type, expr_fits, assigned_fits, variable_named, wants_of, gives_of}
-use Rattle.c_machine.specs.declared.program.Dest.{Dest}
-use Rattle.c_machine.specs.declared.program.Dest.TheVariants as dest
+use Rattle.c_tree.specs.declared.op.Wants.TheVariants.{AType}
+use Rattle.c_tree.specs.Operations.{wants_of, gives_of}
+use Rattle.c_meaning.specs.Checked.{Signature, signature_named, code_fits, arguments_fit, call_fits_signature, call_type, is_the_type, has_type, expr_fits, assigned_fits, variable_named}
+use Rattle.c_machine.specs.declared.program.Target.{Target}
+use Rattle.c_machine.specs.declared.program.Target.TheVariants as target
 use Rattle.c_machine.specs.declared.program.Action.{Action}
 use Rattle.c_machine.specs.declared.program.Action.TheVariants as action
 use Rattle.c_machine.specs.declared.program.Instr.{Instr}
 use Rattle.c_machine.specs.declared.program.Instr.TheVariants as instr
 use Rattle.c_machine.specs.declared.program.Function.{Function}
 use Rattle.c_machine.specs.declared.stepping.Frame.{Frame as Waiter}
-use Rattle.c_machine.specs.Steps.{Config, look, Gave, Gives, Quits, performed, delivered, sent, called, resumed, turned, act, NeedsDest, line_at}
+use Rattle.c_machine.specs.Steps.{Config, look, Gave, Gives, Quits, performed, delivered, sent, called, resumed, turned, act, NeedsTarget, line_at}
 use Rattle.c_machine.specs.Decoded.{line, operand_of, operand_in, action_of, call_of, expr_instr, variables_of, function_of, function_names}
-use Rattle.c_machine.proofs.Means.{meant, decoded, Shape, Straight, Looped, shape_of, statements_of, last_in, first_left, statements_in, shape_in, Level, Inner, Outer, level_in, ShapeFits, Callable, Callee, Callees, names_in, AllTyped, nearest, Stepping, Leads, LeadsAll, AllFit, wrap, enter_at, eval_at, exec_at, flows, flow_of, delivers, DestFits, config, Stands, Forks, Callers, Running, Giving, Means, left_at, steps_at, weight, steps_in, total, turn_weight, work, Kept, Sound}
+use Rattle.c_machine.proofs.Means.{meant, decoded, Shape, Straight, Looped, shape_of, statements_of, last_in, first_left, statements_in, shape_in, Level, Inner, Outer, level_in, ShapeFits, Callable, Callee, Callees, names_in, AllTyped, nearest, Stepping, Leads, LeadsAll, AllFit, wrap, enter_at, eval_at, exec_at, flows, flow_of, delivers, TargetFits, config, Stands, Forks, Callers, Running, Giving, Means, left_at, steps_at, weight, steps_in, total, turn_weight, work, Kept, Sound}
 use Rattle.c_machine.proofs.Leading.{statements_back, straight_back, turn_leads, block_leads, first_leads, first_fits}
 use Rattle.c_machine.proofs.Flows.{IsStop, stop_with, stop_wrap, wrap_returns, after_next, assign_flow, call_flow, return_flow, test_flow}
 use Rattle.c_machine.proofs.Places.{lines_in, function_there, line_there, left_there, left_less, give_there, steps_le, steps_here, within_total, some_weight, heavier, weighs_less, as_heavy, within_turn, work_falls}
@@ -87,13 +89,13 @@ module _ (fs : List CFun) where
 
   -- Values ----------------------------------------------------------------------------------
 
-  deliver_needs : (k pc : ℕ) (f : CFun) (left : List Code) (fr : Frame) (below env : List ℕ) (t : CTy) (to : Dest) → Stands fs (place_in fs) k pc f left fr env → DestFits (variables_of f) f.result t to → NeedsDest to (length below) (below ++ env)
-  deliver_needs k pc f left fr below env t (dest.Local x) st d =
+  deliver_needs : (k pc : ℕ) (f : CFun) (left : List Code) (fr : Frame) (below env : List ℕ) (t : CTy) (to : Target) → Stands fs (place_in fs) k pc f left fr env → TargetFits (variables_of f) f.result t to → NeedsTarget to (length below) (below ++ env)
+  deliver_needs k pc f left fr below env t (target.Local x) st d =
       let lt = slice_get_within (variables_of f) x d.0 d.1 in
       omega (arith, st.holds.long, lt, length-append below env)
-  deliver_needs k pc f left fr below env t dest.Nowhere st d = tt
-  deliver_needs k pc f left fr below env t dest.Caller st d = tt
-  deliver_needs k pc f left fr below env t (dest.Test at) st d = tt
+  deliver_needs k pc f left fr below env t target.Nowhere st d = tt
+  deliver_needs k pc f left fr below env t target.Caller st d = tt
+  deliver_needs k pc f left fr below env t (target.Test at) st d = tt
 
   -- where a function goes on, with these pieces left
   goes_on : (k pc : ℕ) (f : CFun) (left : List Code) (fr : Frame) (below env : List ℕ) (frames : List Waiter) (v : ℕ) (s : State) (b : ℕ) (outer : Flow → Observation) (w : Observation) → Stands fs (place_in fs) k pc f left fr env → s.turns ≤ b → Callers fs (place_in fs) frames below s.turns f outer → w ≡ outer (flow_of P b f left fr s) → Means fs (place_in fs) (config k pc below env s.turns frames v) s.output w
@@ -119,20 +121,20 @@ module _ (fs : List CFun) where
   })
 
   module _ (k pc : ℕ) (f : CFun) (left other : List Code) (fr : Frame) (below env : List ℕ) (frames : List Waiter) (s : State) (b : ℕ) (outer : Flow → Observation) (w : Observation) (st : Stands fs (place_in fs) k pc f left fr env) (le : s.turns ≤ b) (cs : Callers fs (place_in fs) frames below s.turns f outer) where
-    abbrev Delivers : Dest → Cell → Type 0
+    abbrev Delivers : Target → Cell → Type 0
     Delivers to c = w ≡ outer (wrap P b (names_in f) (shape_in f) (delivers (level_in f) P b (names_in f) to left other fr c s))
 
     forks_by : (at v : ℕ) (test : Bool) → Stands fs (place_in fs) k at f other fr env → w ≡ outer (wrap P b (names_in f) (shape_in f) (if test then flows (level_in f) P b (names_in f) other fr s else flows (level_in f) P b (names_in f) left fr s)) → Means fs (place_in fs) (config k (if test then at else pc) below env s.turns frames v) s.output w
     forks_by at v true fk e = goes_on k at f other fr below env frames v s b outer w fk le cs e
     forks_by at v false fk e = goes_on k pc f left fr below env frames v s b outer w st le cs e
 
-    fork_means : (at : ℕ) (c : Cell) (v : ℕ) → Slot Int c v → Stands fs (place_in fs) k at f other fr env → Delivers (dest.Test at) c → Means fs (place_in fs) (config k (if nat_eq v 0 then at else pc) below env s.turns frames v) s.output w
+    fork_means : (at : ℕ) (c : Cell) (v : ℕ) → Slot Int c v → Stands fs (place_in fs) k at f other fr env → Delivers (target.Test at) c → Means fs (place_in fs) (config k (if nat_eq v 0 then at else pc) below env s.turns frames v) s.output w
     fork_means at (AWord x) v sl fk e = absurd sl.fits
     fork_means at (ANumber (negsuc n)) v sl fk e = absurd (let no = sl.fits in cc)
     fork_means at (ANumber (pos n)) v sl fk e = subst (λ u. Means fs (place_in fs) (config k (if nat_eq u 0 then at else pc) below env s.turns frames u) s.output w) (sym sl.is) (forks_by at n (n == 0) fk e)
 
-    deliver_means : (t : CTy) (to : Dest) (c : Cell) (v old : ℕ) → Forks fs (place_in fs) to k f other fr env → DestFits (variables_of f) f.result t to → Slot t c v → Delivers to c → Means fs (place_in fs) (delivered to v (config k pc below env s.turns frames old)) s.output w
-    deliver_means t (dest.Local x) c v old fk d sl e =
+    deliver_means : (t : CTy) (to : Target) (c : Cell) (v old : ℕ) → Forks fs (place_in fs) to k f other fr env → TargetFits (variables_of f) f.result t to → Slot t c v → Delivers to c → Means fs (place_in fs) (delivered to v (config k pc below env s.turns frames old)) s.output w
+    deliver_means t (target.Local x) c v old fk d sl e =
         let here : Stands fs (place_in fs) k pc f left (put x c fr) (slice_set env x v) = record {
           there = st.there;
           sigs = st.sigs;
@@ -143,8 +145,8 @@ module _ (fs : List CFun) where
         } in
         subst (λ l. Means fs (place_in fs) (record { fun = k; pc = pc; base = length below; turns = s.turns; slots = l; frames = frames; value = v }) s.output w) (sym (set_env below env x v))
         (goes_on k pc f left (put x c fr) below (slice_set env x v) frames v s b outer w here le cs e)
-    deliver_means t dest.Nowhere c v old fk d sl e = goes_on k pc f left fr below env frames v s b outer w st le cs e
-    deliver_means t dest.Caller c v old fk d sl e = inr (record {
+    deliver_means t target.Nowhere c v old fk d sl e = goes_on k pc f left fr below env frames v s b outer w st le cs e
+    deliver_means t target.Caller c v old fk d sl e = inr (record {
       fn = k;
       below = below;
       env = env;
@@ -160,7 +162,7 @@ module _ (fs : List CFun) where
       callers = cs;
       whole = e ∙ ap outer (wrap_returns P b (names_in f) (shape_in f) c s);
     })
-    deliver_means t (dest.Test at) c v old fk d sl e = fork_means at c v (subst (λ u. Slot u c v) d sl) fk e
+    deliver_means t (target.Test at) c v old fk d sl e = fork_means at c v (subst (λ u. Slot u c v) d sl) fk e
 
   -- the work that is left at a place, which is no nearer than another
   steps_beyond : (k near pc : ℕ) → near ≤ pc → steps_at (decoded fs) k pc ≤ 2 * left_at (decoded fs) k near + 1
@@ -173,30 +175,30 @@ module _ (fs : List CFun) where
   either_beyond true at next = omega arith
   either_beyond false at next = omega arith
 
-  deliver_steps : (k : ℕ) (f : CFun) (to : Dest) (v : ℕ) (c : Config) → c.fun ≡ k → slice_get fs k ≡ Some f → steps_at (decoded fs) (delivered to v c).fun (delivered to v c).pc ≤ 2 * left_at (decoded fs) c.fun (nearest to c.pc) + 1
-  deliver_steps k f (dest.Local x) v c e there = steps_beyond c.fun c.pc c.pc (omega arith)
-  deliver_steps k f dest.Nowhere v c e there = steps_beyond c.fun c.pc c.pc (omega arith)
-  deliver_steps k f dest.Caller v c e there =
+  deliver_steps : (k : ℕ) (f : CFun) (to : Target) (v : ℕ) (c : Config) → c.fun ≡ k → slice_get fs k ≡ Some f → steps_at (decoded fs) (delivered to v c).fun (delivered to v c).pc ≤ 2 * left_at (decoded fs) c.fun (nearest to c.pc) + 1
+  deliver_steps k f (target.Local x) v c e there = steps_beyond c.fun c.pc c.pc (omega arith)
+  deliver_steps k f target.Nowhere v c e there = steps_beyond c.fun c.pc c.pc (omega arith)
+  deliver_steps k f target.Caller v c e there =
       let g = steps_here (decoded fs) c.fun 0 (Some (line instr.Give 1)) (ap (λ n. line_at (decoded fs) n 0) e ∙ give_there fs k f there) in
       omega (arith, g)
-  deliver_steps k f (dest.Test at) v c e there = steps_beyond c.fun (min at c.pc) (if nat_eq v 0 then at else c.pc) (either_beyond (nat_eq v 0) at c.pc)
+  deliver_steps k f (target.Test at) v c e there = steps_beyond c.fun (min at c.pc) (if nat_eq v 0 then at else c.pc) (either_beyond (nat_eq v 0) at c.pc)
 
-  deliver_turns : (to : Dest) (v : ℕ) (c : Config) → (delivered to v c).turns ≡ c.turns
-  deliver_turns (dest.Local x) v c = refl
-  deliver_turns dest.Nowhere v c = refl
-  deliver_turns dest.Caller v c = refl
-  deliver_turns (dest.Test at) v c = refl
+  deliver_turns : (to : Target) (v : ℕ) (c : Config) → (delivered to v c).turns ≡ c.turns
+  deliver_turns (target.Local x) v c = refl
+  deliver_turns target.Nowhere v c = refl
+  deliver_turns target.Caller v c = refl
+  deliver_turns (target.Test at) v c = refl
 
-  deliver_frames : (to : Dest) (v : ℕ) (c : Config) → (delivered to v c).frames ≡ c.frames
-  deliver_frames (dest.Local x) v c = refl
-  deliver_frames dest.Nowhere v c = refl
-  deliver_frames dest.Caller v c = refl
-  deliver_frames (dest.Test at) v c = refl
+  deliver_frames : (to : Target) (v : ℕ) (c : Config) → (delivered to v c).frames ≡ c.frames
+  deliver_frames (target.Local x) v c = refl
+  deliver_frames target.Nowhere v c = refl
+  deliver_frames target.Caller v c = refl
+  deliver_frames (target.Test at) v c = refl
 
   -- Actions ---------------------------------------------------------------------------------
 
   -- what a statement finds: its line and those that come after it, its function and its callers
-  record Here (k pc next : ℕ) (f : CFun) (left other : List Code) (fr : Frame) (below env : List ℕ) (frames : List Waiter) (s : State) (b : ℕ) (outer : Flow → Observation) (to : Dest) (i : Instr) : Type 0 where
+  record Here (k pc next : ℕ) (f : CFun) (left other : List Code) (fr : Frame) (below env : List ℕ) (frames : List Waiter) (s : State) (b : ℕ) (outer : Flow → Observation) (to : Target) (i : Instr) : Type 0 where
     there : slice_get fs k ≡ Some f
     found : line_at (decoded fs) k pc ≡ Some (line i next)
     within : pc < length (lines_in fs f)
@@ -213,7 +215,7 @@ module _ (fs : List CFun) where
       let b = left_there fs k near f there in
       omega (arith, a, b, lt, ahead, le, e)
 
-  module _ (k pc next : ℕ) (f : CFun) (left other : List Code) (fr : Frame) (below env : List ℕ) (frames : List Waiter) (s : State) (b : ℕ) (outer : Flow → Observation) (to : Dest) (t : CTy) (old : ℕ) (w : Observation) (d : DestFits (variables_of f) f.result t to) where
+  module _ (k pc next : ℕ) (f : CFun) (left other : List Code) (fr : Frame) (below env : List ℕ) (frames : List Waiter) (s : State) (b : ℕ) (outer : Flow → Observation) (to : Target) (t : CTy) (old : ℕ) (w : Observation) (d : TargetFits (variables_of f) f.result t to) where
     abbrev At : Instr → Type 0
     At i = Here k pc next f left other fr below env frames s b outer to i
 
@@ -282,7 +284,7 @@ module _ (fs : List CFun) where
       let turn : last_in (shape_in g) ≡ instr.Turn = ap (λ c. last_in (shape_of c)) e in
       steps_here (decoded fs) k 1 (Some (line instr.Turn lead.0)) (line_there fs k 1 g there ∙ lead.1 ∙ ap (λ i. Some (line i lead.0)) turn)
 
-  module _ (typed : AllTyped fs (place_in fs)) (k pc next : ℕ) (f : CFun) (left other : List Code) (fr : Frame) (below env : List ℕ) (frames : List Waiter) (s : State) (b : ℕ) (outer : Flow → Observation) (to : Dest) (old : ℕ) (w : Observation) where
+  module _ (typed : AllTyped fs (place_in fs)) (k pc next : ℕ) (f : CFun) (left other : List Code) (fr : Frame) (below env : List ℕ) (frames : List Waiter) (s : State) (b : ℕ) (outer : Flow → Observation) (to : Target) (old : ℕ) (w : Observation) where
     abbrev FrameHere : Waiter
     FrameHere = record { to = to; fun = k; next = next; base = length below }
 
@@ -320,7 +322,7 @@ module _ (fs : List CFun) where
         let less = call_less (steps_at funs g 1) (weight funs frames * ahead) (weight funs frames * steps_at funs k pc) (steps_in funs frames) lt in
         work_falls funs (config k pc below env s.turns frames old) (config g 1 (below ++ env) here s.turns (FrameHere ∷ frames) old) refl less
 
-    call_sound : (g : List ℕ) (args : List CArg) (sig : Signature) → Here k pc next f left other fr below env frames s b outer to (instr.Call to (place_in fs g) (map (operand_in (names_in f)) args)) → Callee fs (level_in f) (place_in fs g) g sig → arguments_fit (variables_of f) (map AType sig.params) args ≡ true → DestFits (variables_of f) f.result sig.result to → w ≡ outer (wrap P b (names_in f) (shape_in f) (with (enter_at (level_in f) P b (fun_named P g) (cells (arguments (names_in f) fr args)) s) fr (delivers (level_in f) P b (names_in f) to left other fr))) → Sound fs (place_in fs) (config k pc below env s.turns frames old) s.output w (Some (line (instr.Call to (place_in fs g) (map (operand_in (names_in f)) args)) next))
+    call_sound : (g : List ℕ) (args : List CArg) (sig : Signature) → Here k pc next f left other fr below env frames s b outer to (instr.Call to (place_in fs g) (map (operand_in (names_in f)) args)) → Callee fs (level_in f) (place_in fs g) g sig → arguments_fit (variables_of f) (map AType sig.params) args ≡ true → TargetFits (variables_of f) f.result sig.result to → w ≡ outer (wrap P b (names_in f) (shape_in f) (with (enter_at (level_in f) P b (fun_named P g) (cells (arguments (names_in f) fr args)) s) fr (delivers (level_in f) P b (names_in f) to left other fr))) → Sound fs (place_in fs) (config k pc below env s.turns frames old) s.output w (Some (line (instr.Call to (place_in fs g) (map (operand_in (names_in f)) args)) next))
     unfolding Callers
     call_sound g args sig h d fit df e =
         let callee = d.fun in
@@ -342,7 +344,7 @@ module _ (fs : List CFun) where
         let first = first_left (shape_in callee) in
         let begun : enter_at (level_in f) P b (fun_named P g) cs s ≡ answer (flow_of P b callee first (entry (fun_of callee) cs) s) =
         ap (λ o. enter_at (level_in f) P b o cs s) d.found ∙ call_begins b callee cs s (level_in f) (shape_in callee) d.inner refl d.shape in
-        let fits2 : DestFits vars f.result callee.result to = subst (λ (u : CTy). DestFits vars f.result u to) (sym d.result) df in
+        let fits2 : TargetFits vars f.result callee.result to = subst (λ (u : CTy). TargetFits vars f.result u to) (sym d.result) df in
         let stands : Stands fs (place_in fs) at 1 callee first (entry (fun_of callee) cs) here = record {
           there = d.there;
           sigs = t.sigs;
@@ -364,7 +366,7 @@ module _ (fs : List CFun) where
   typed_if t u true h = (refl, same_type_is t u h)
   typed_if t u false h = absurd (cc)
 
-  module _ (typed : AllTyped fs (place_in fs)) (k pc next : ℕ) (f : CFun) (left other : List Code) (fr : Frame) (below env : List ℕ) (frames : List Waiter) (s : State) (b : ℕ) (outer : Flow → Observation) (to : Dest) (t : CTy) (old : ℕ) (w : Observation) (df : DestFits (variables_of f) f.result t to) where
+  module _ (typed : AllTyped fs (place_in fs)) (k pc next : ℕ) (f : CFun) (left other : List Code) (fr : Frame) (below env : List ℕ) (frames : List Waiter) (s : State) (b : ℕ) (outer : Flow → Observation) (to : Target) (t : CTy) (old : ℕ) (w : Observation) (df : TargetFits (variables_of f) f.result t to) where
     abbrev Begun : Instr → Type 0
     Begun i = Here k pc next f left other fr below env frames s b outer to i
 
@@ -378,14 +380,14 @@ module _ (fs : List CFun) where
     fun_sound sigs g args None callees es fit h e = absurd (cc)
     fun_sound sigs g args (Some sig) callees es fit h e =
         let p = typed_if t sig.result (arguments_fit (variables_of f) (map AType sig.params) args) fit in
-        call_sound typed k pc next f left other fr below env frames s b outer to old w g args sig h (callees g sig es) p.0 (subst (λ (u : CTy). DestFits (variables_of f) f.result u to) p.1 df) e
+        call_sound typed k pc next f left other fr below env frames s b outer to old w g args sig h (callees g sig es) p.0 (subst (λ (u : CTy). TargetFits (variables_of f) f.result u to) p.1 df) e
 
-    target_sound : (sigs : List Signature) (cal : Target) (args : List CArg) → Callees fs (level_in f) (place_in fs) sigs → is_the_type t (call_type sigs (variables_of f) cal args) ≡ true → Begun (call_of (names_in f) (function_names fs) to cal args) → Gets (invoke_by P (enter_at (level_in f) P b) (run P b) cal (arguments (names_in f) fr args) s) → Safe (call_of (names_in f) (function_names fs) to cal args)
+    target_sound : (sigs : List Signature) (cal : Named) (args : List CArg) → Callees fs (level_in f) (place_in fs) sigs → is_the_type t (call_type sigs (variables_of f) cal args) ≡ true → Begun (call_of (names_in f) (function_names fs) to cal args) → Gets (invoke_by P (enter_at (level_in f) P b) (run P b) cal (arguments (names_in f) fr args) s) → Safe (call_of (names_in f) (function_names fs) to cal args)
     target_sound sigs (callee.Fun g) args callees fit h e = fun_sound sigs g args (signature_named sigs g) callees refl fit h e
     target_sound sigs (callee.Op op) args callees fit h e =
         let p = typed_if t (gives_of op) (arguments_fit (variables_of f) (wants_of op) args) fit in
         let o = operated (variables_of f) fr below env s h.behind.holds op args p.0 in
-        does_sound k pc next f left other fr below env frames s b outer to (gives_of op) old w (subst (λ (u : CTy). DestFits (variables_of f) f.result u to) p.1 df) (action_of (names_in f) op args) h (operate op (arguments (names_in f) fr args) s) o e
+        does_sound k pc next f left other fr below env frames s b outer to (gives_of op) old w (subst (λ (u : CTy). TargetFits (variables_of f) f.result u to) p.1 df) (action_of (names_in f) op args) h (operate op (arguments (names_in f) fr args) s) o e
 
     expr_sound : (sigs : List Signature) (x : CExpr) → Callees fs (level_in f) (place_in fs) sigs → expr_fits sigs (variables_of f) x t ≡ true → Begun (expr_instr (names_in f) (function_names fs) to x) → Gets (eval_at (level_in f) P b (names_in f) x fr s) → Safe (expr_instr (names_in f) (function_names fs) to x)
     expr_sound sigs (expr.Atom a) callees fit h e =
@@ -478,9 +480,9 @@ module _ (fs : List CFun) where
       let back : resumed r rs c1 ≡ caller =
       ap (λ l. record { fun = r.fun; pc = r.next; base = r.base; turns = s.turns; slots = l; frames = rs; value = v }) kept_slots
       ∙ ap (λ n. record { fun = r.fun; pc = r.next; base = n; turns = s.turns; slots = wt.under ++ wt.env; frames = rs; value = v }) wt.base in
-      let needs : NeedsDest r.to r.base (take (length below) (below ++ env)) =
-      subst (λ n. NeedsDest r.to n (take (length below) (below ++ env))) (sym wt.base)
-      (subst (λ l. NeedsDest r.to (length wt.under) l) (sym kept_slots) (deliver_needs r.fun r.next wt.fun wt.left wt.frame wt.under wt.env f.result r.to wt.stands wt.fits)) in
+      let needs : NeedsTarget r.to r.base (take (length below) (below ++ env)) =
+      subst (λ n. NeedsTarget r.to n (take (length below) (below ++ env))) (sym wt.base)
+      (subst (λ l. NeedsTarget r.to (length wt.under) l) (sym kept_slots) (deliver_needs r.fun r.next wt.fun wt.left wt.frame wt.under wt.env f.result r.to wt.stands wt.fits)) in
       let means = deliver_means r.fun r.next wt.fun wt.left wt.other wt.frame wt.under wt.env rs s wt.bound wt.outer w wt.stands wt.enough cs.1 f.result r.to c v v wt.forks wt.fits (record { fits = fits; is = refl }) (e ∙ wt.whole (Returns c s)) in
       let d = delivered r.to v caller in
       let le = deliver_steps r.fun wt.fun r.to v caller refl wt.stands.there in
@@ -501,7 +503,7 @@ module _ (fs : List CFun) where
     Runs left = Stands fs (place_in fs) k pc f left fr env → w ≡ outer (flow_of P b f left fr s) → Sound fs (place_in fs) (config k pc below env s.turns frames old) s.output w (line_at (decoded fs) k pc)
 
     -- the statement that is next: its line, and what stands ahead of it
-    here : (at : ℕ) (to : Dest) (i : Instr) (left other : List Code) → slice_get fs k ≡ Some f → Stepping (lines_in fs f) pc to i at → Stands fs (place_in fs) k at f left fr env → Forks fs (place_in fs) to k f other fr env → Here k pc at f left other fr below env frames s b outer to i
+    here : (at : ℕ) (to : Target) (i : Instr) (left other : List Code) → slice_get fs k ≡ Some f → Stepping (lines_in fs f) pc to i at → Stands fs (place_in fs) k at f left fr env → Forks fs (place_in fs) to k f other fr env → Here k pc at f left other fr below env frames s b outer to i
     here at to i left other there step st fk = record {
       there = there;
       found = line_there fs k pc f there ∙ step.there;
@@ -517,15 +519,15 @@ module _ (fs : List CFun) where
     found_sound : (at : ℕ) (i : Instr) → line_at (decoded fs) k pc ≡ Some (line i at) → Sound fs (place_in fs) (config k pc below env s.turns frames old) s.output w (Some (line i at)) → Sound fs (place_in fs) (config k pc below env s.turns frames old) s.output w (line_at (decoded fs) k pc)
     found_sound at i e h = subst (λ l. Sound fs (place_in fs) (config k pc below env s.turns frames old) s.output w l) (sym e) h
 
-    assign_sound : (at : ℕ) (sigs : List Signature) (x : List ℕ) (e : CExpr) (left : List Code) (o : Option CVar) → Callees fs (level_in f) (place_in fs) sigs → variable_named (variables_of f) x ≡ o → assigned_fits sigs (variables_of f) e o ≡ true → Here k pc at f left [] fr below env frames s b outer (dest.Local (position_of x (names_in f))) (expr_instr (names_in f) (function_names fs) (dest.Local (position_of x (names_in f))) e) → w ≡ outer (wrap P b (names_in f) (shape_in f) (with (eval_at (level_in f) P b (names_in f) e fr s) fr (delivers (level_in f) P b (names_in f) (dest.Local (position_of x (names_in f))) left [] fr))) → Sound fs (place_in fs) (config k pc below env s.turns frames old) s.output w (Some (line (expr_instr (names_in f) (function_names fs) (dest.Local (position_of x (names_in f))) e) at))
+    assign_sound : (at : ℕ) (sigs : List Signature) (x : List ℕ) (e : CExpr) (left : List Code) (o : Option CVar) → Callees fs (level_in f) (place_in fs) sigs → variable_named (variables_of f) x ≡ o → assigned_fits sigs (variables_of f) e o ≡ true → Here k pc at f left [] fr below env frames s b outer (target.Local (position_of x (names_in f))) (expr_instr (names_in f) (function_names fs) (target.Local (position_of x (names_in f))) e) → w ≡ outer (wrap P b (names_in f) (shape_in f) (with (eval_at (level_in f) P b (names_in f) e fr s) fr (delivers (level_in f) P b (names_in f) (target.Local (position_of x (names_in f))) left [] fr))) → Sound fs (place_in fs) (config k pc below env s.turns frames old) s.output w (Some (line (expr_instr (names_in f) (function_names fs) (target.Local (position_of x (names_in f))) e) at))
     assign_sound at sigs x e left None callees es fit h is = absurd (cc)
     assign_sound at sigs x e left (Some v) callees es fit h is =
-        expr_sound typed k pc at f left [] fr below env frames s b outer (dest.Local (position_of x (names_in f))) v.ty old w (v, variable_at x (variables_of f) v es, refl) sigs e callees fit h is
+        expr_sound typed k pc at f left [] fr below env frames s b outer (target.Local (position_of x (names_in f))) v.ty old w (v, variable_at x (variables_of f) v es, refl) sigs e callees fit h is
 
-    called_sound : (at : ℕ) (sigs : List Signature) (c : CCall) (left : List Code) (o : Option CTy) → Callees fs (level_in f) (place_in fs) sigs → call_type sigs (variables_of f) c.callee c.args ≡ o → has_type o ≡ true → Here k pc at f left [] fr below env frames s b outer dest.Nowhere (call_of (names_in f) (function_names fs) dest.Nowhere c.callee c.args) → w ≡ outer (wrap P b (names_in f) (shape_in f) (with (eval_at (level_in f) P b (names_in f) (expr.Call c) fr s) fr (delivers (level_in f) P b (names_in f) dest.Nowhere left [] fr))) → Sound fs (place_in fs) (config k pc below env s.turns frames old) s.output w (Some (line (call_of (names_in f) (function_names fs) dest.Nowhere c.callee c.args) at))
+    called_sound : (at : ℕ) (sigs : List Signature) (c : CCall) (left : List Code) (o : Option CTy) → Callees fs (level_in f) (place_in fs) sigs → call_type sigs (variables_of f) c.callee c.args ≡ o → has_type o ≡ true → Here k pc at f left [] fr below env frames s b outer target.Nowhere (call_of (names_in f) (function_names fs) target.Nowhere c.callee c.args) → w ≡ outer (wrap P b (names_in f) (shape_in f) (with (eval_at (level_in f) P b (names_in f) (expr.Call c) fr s) fr (delivers (level_in f) P b (names_in f) target.Nowhere left [] fr))) → Sound fs (place_in fs) (config k pc below env s.turns frames old) s.output w (Some (line (call_of (names_in f) (function_names fs) target.Nowhere c.callee c.args) at))
     called_sound at sigs c left None callees es fit h is = absurd (cc)
     called_sound at sigs c left (Some t) callees es fit h is =
-        expr_sound typed k pc at f left [] fr below env frames s b outer dest.Nowhere t old w tt sigs (expr.Call c) callees (ap (is_the_type t) es ∙ same_type_self t) h is
+        expr_sound typed k pc at f left [] fr below env frames s b outer target.Nowhere t old w tt sigs (expr.Call c) callees (ap (is_the_type t) es ∙ same_type_self t) h is
 
     -- what stands at another place
     stands_at : (at : ℕ) (left now : List Code) → (st : Stands fs (place_in fs) k pc f now fr env) → AllFit st.sigs (variables_of f) f.result left → LeadsAll (names_in f) (function_names fs) (lines_in fs f) (last_in (shape_in f)) left at → Stands fs (place_in fs) k at f left fr env
@@ -545,7 +547,7 @@ module _ (fs : List CFun) where
         running_sound cs1 (stands_at pc cs1 (done ∷ cs1) st st.fits.1 (subst (λ n. LeadsAll (names_in f) (function_names fs) (lines_in fs f) (last_in (shape_in f)) cs1 n) (sym st.leads.1) st.leads.2)) is
     running_sound (assign x e rest ∷ cs1) st is =
         let p = and_parts (assigned_fits st.sigs (variables_of f) e (variable_named (variables_of f) x)) (code_fits st.sigs (variables_of f) f.result rest) st.fits.0 in
-        let to = dest.Local (position_of x (names_in f)) in
+        let to = target.Local (position_of x (names_in f)) in
         let l = st.leads.1 in
         let ahead = stands_at l.0 (rest ∷ cs1) (assign x e rest ∷ cs1) st (p.1, st.fits.1) (st.leads.0, l.2, st.leads.2) in
         let h = here l.0 to (expr_instr (names_in f) (function_names fs) to e) (rest ∷ cs1) [] st.there l.1 ahead tt in
@@ -555,23 +557,23 @@ module _ (fs : List CFun) where
         let p = and_parts (has_type (call_type st.sigs (variables_of f) c.callee c.args)) (code_fits st.sigs (variables_of f) f.result rest) st.fits.0 in
         let l = st.leads.1 in
         let ahead = stands_at l.0 (rest ∷ cs1) (call c rest ∷ cs1) st (p.1, st.fits.1) (st.leads.0, l.2, st.leads.2) in
-        let h = here l.0 dest.Nowhere (call_of (names_in f) (function_names fs) dest.Nowhere c.callee c.args) (rest ∷ cs1) [] st.there l.1 ahead tt in
-        found_sound l.0 (call_of (names_in f) (function_names fs) dest.Nowhere c.callee c.args) h.found
+        let h = here l.0 target.Nowhere (call_of (names_in f) (function_names fs) target.Nowhere c.callee c.args) (rest ∷ cs1) [] st.there l.1 ahead tt in
+        found_sound l.0 (call_of (names_in f) (function_names fs) target.Nowhere c.callee c.args) h.found
         (called_sound l.0 st.sigs c (rest ∷ cs1) (call_type st.sigs (variables_of f) c.callee c.args) st.callees refl p.0 h (is ∙ ap wrapped (call_flow (level_in f) P b (names_in f) cs1 fr s c rest [])))
     running_sound (return e rest ∷ cs1) st is =
         let p = and_parts (expr_fits st.sigs (variables_of f) e f.result) (code_fits st.sigs (variables_of f) f.result rest) st.fits.0 in
         let l = st.leads.1 in
         let ahead = stands_at l.0 (rest ∷ cs1) (return e rest ∷ cs1) st (p.1, st.fits.1) (st.leads.0, l.2, st.leads.2) in
-        let h = here l.0 dest.Caller (expr_instr (names_in f) (function_names fs) dest.Caller e) (rest ∷ cs1) [] st.there l.1 ahead tt in
-        found_sound l.0 (expr_instr (names_in f) (function_names fs) dest.Caller e) h.found
-        (expr_sound typed k pc l.0 f (rest ∷ cs1) [] fr below env frames s b outer dest.Caller f.result old w refl st.sigs e st.callees p.0 h (is ∙ ap wrapped (return_flow (level_in f) P b (names_in f) cs1 fr s e rest [])))
+        let h = here l.0 target.Caller (expr_instr (names_in f) (function_names fs) target.Caller e) (rest ∷ cs1) [] st.there l.1 ahead tt in
+        found_sound l.0 (expr_instr (names_in f) (function_names fs) target.Caller e) h.found
+        (expr_sound typed k pc l.0 f (rest ∷ cs1) [] fr below env frames s b outer target.Caller f.result old w refl st.sigs e st.callees p.0 h (is ∙ ap wrapped (return_flow (level_in f) P b (names_in f) cs1 fr s e rest [])))
     running_sound (test e x y rest ∷ cs1) st is =
         let fit : Code → Bool = code_fits st.sigs (variables_of f) f.result in
         let p = and_parts (expr_fits st.sigs (variables_of f) e Int) (fit x && (fit y && fit rest)) st.fits.0 in
         let q = and_parts (fit x) (fit y && fit rest) p.1 in
         let r = and_parts (fit y) (fit rest) q.1 in
         let l = st.leads.1 in
-        let to = dest.Test l.1 in
+        let to = target.Test l.1 in
         let behind : LeadsAll (names_in f) (function_names fs) (lines_in fs f) (last_in (shape_in f)) (rest ∷ cs1) l.2 = (st.leads.0, l.6, st.leads.2) in
         let first = stands_at l.0 (x ∷ rest ∷ cs1) (test e x y rest ∷ cs1) st (q.0, (r.1, st.fits.1)) (l.2, l.4, behind) in
         let second = stands_at l.1 (y ∷ rest ∷ cs1) (test e x y rest ∷ cs1) st (r.0, (r.1, st.fits.1)) (l.2, l.5, behind) in

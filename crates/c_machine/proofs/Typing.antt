@@ -12,7 +12,7 @@ use Rattle.c_tree.specs.declared.tree.CTy.TheVariants.{Obj, Long, Char, Int}
 use Rattle.c_tree.specs.declared.tree.CAtom.{CAtom}
 use Rattle.c_tree.specs.declared.tree.CAtom.TheVariants as atoms
 use Rattle.c_tree.specs.declared.tree.CVar.{CVar}
-use Rattle.c_meaning.specs.Word.{Word, False, True, Nil, Unspec, Eof, number_of}
+use Rattle.c_meaning.specs.Word.{Word, False, True, Nil, Unspec, Eof, bits_of}
 use Rattle.c_meaning.specs.State.{Cell, AWord, ANumber, Frame, put}
 use Rattle.c_meaning.specs.Execution.{position_of, atom}
 use Rattle.c_meaning.specs.Checked.{same_type, number_fits, is_byte, is_typed, variable_named, atom_fits}
@@ -24,7 +24,7 @@ use Rattle.c_machine.proofs.Numbers.{WordFits, long_fits, byte_fixnum}
 
 -- the bits of a cell
 abbrev pub slot_of : Cell → ℕ
-slot_of (AWord w) = number_of w
+slot_of (AWord w) = bits_of w
 slot_of (ANumber z) = long_word z
 
 -- the cells that a type allows
@@ -93,7 +93,7 @@ number_bits z Long h = long_fits z h
 number_bits z Char h = long_fits z (byte_fixnum z h)
 number_bits z Int h = long_fits z (byte_fixnum z h)
 
-constant_slot : (w : Word) (t : CTy) → WordFits w → same_type t Obj ≡ true → Slot t (AWord w) (number_of w)
+constant_slot : (w : Word) (t : CTy) → WordFits w → same_type t Obj ≡ true → Slot t (AWord w) (bits_of w)
 constant_slot w Obj f h = record { fits = f; is = refl }
 constant_slot w Long f h = absurd (cc)
 constant_slot w Char f h = absurd (cc)

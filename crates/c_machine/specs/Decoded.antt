@@ -3,7 +3,6 @@ use Rattle.std.specs.Prelude.{◌≡◌, ℕ, suc, ◌+◌, List, [], ◌∷◌,
 use Rattle.std.specs.List.{list_all}
 use Rattle.scheme_data.specs.Names.{are_distinct}
 use Rattle.scheme_data.specs.Fixnum.{long_word}
-use Rattle.built_table.specs.declared.primitives.Primitive.TheVariants.{Add, Less, Display, Newline}
 use Rattle.c_tree.specs.declared.op.Op.{Op}
 use Rattle.c_tree.specs.declared.op.Op.TheVariants.{BoxLong, BoxBool, UnboxLong, Truth, Raise, Args, Status, Primitive as Prim_op}
 use Rattle.c_tree.specs.declared.tree.CAtom.{CAtom}
@@ -21,12 +20,13 @@ use Rattle.c_tree.specs.declared.function.CItem.TheVariants.{Declared, Defined}
 use Rattle.c_tree.specs.Code.{Code, done, assign, call, return, test, loop}
 use Rattle.c_tree.specs.Layout.{size}
 use Rattle.c_tree.specs.Functions.{fun_of, items_of}
+use Rattle.c_meaning.specs.Word.{False, True, Nil, Unspec, Eof, bits_of}
 use Rattle.c_meaning.specs.Execution.{Names, position_of}
 use Rattle.c_meaning.specs.Checked.{IsChecked}
 use Rattle.c_machine.specs.declared.program.Operand.{Operand}
 use Rattle.c_machine.specs.declared.program.Operand.TheVariants as operand
-use Rattle.c_machine.specs.declared.program.Dest.{Dest}
-use Rattle.c_machine.specs.declared.program.Dest.TheVariants as dest
+use Rattle.c_machine.specs.declared.program.Target.{Target}
+use Rattle.c_machine.specs.declared.program.Target.TheVariants as target
 use Rattle.c_machine.specs.declared.program.Action.{Action}
 use Rattle.c_machine.specs.declared.program.Action.TheVariants as action
 use Rattle.c_machine.specs.declared.program.Instr.{Instr}
@@ -38,11 +38,11 @@ use Rattle.c_machine.specs.Words.{byte_of}
 abbrev pub operand_of : Names → CAtom → Operand
 operand_of names (atom.Int n) = operand.Word (long_word n)
 operand_of names (atom.Name x) = operand.Local (position_of x names)
-operand_of names atom.False = operand.Word 3
-operand_of names atom.True = operand.Word 11
-operand_of names atom.Nil = operand.Word 19
-operand_of names atom.Unspec = operand.Word 27
-operand_of names atom.Eof = operand.Word 35
+operand_of names atom.False = operand.Word (bits_of False)
+operand_of names atom.True = operand.Word (bits_of True)
+operand_of names atom.Nil = operand.Word (bits_of Nil)
+operand_of names atom.Unspec = operand.Word (bits_of Unspec)
+operand_of names atom.Eof = operand.Word (bits_of Eof)
 
 -- an argument that is no atom stands where no checked program has one
 abbrev pub operand_in : Names → CArg → Operand
@@ -83,16 +83,13 @@ action_of names Truth args = action.Truth (operand_at names args 0)
 action_of names Raise args = action.Raise (code_in (slice_get args 0)) (text_in (slice_get args 1))
 action_of names Args args = action.Args
 action_of names Status args = action.Status (operand_at names args 0)
-action_of names (Prim_op Add) args = action.Add (operand_at names args 0) (operand_at names args 1)
-action_of names (Prim_op Less) args = action.Less (operand_at names args 0) (operand_at names args 1)
-action_of names (Prim_op Display) args = action.Display (operand_at names args 0)
-action_of names (Prim_op Newline) args = action.Newline
+action_of names (Prim_op p) args = action.Primitive p (operand_at names args 0) (operand_at names args 1) (operand_at names args 2)
 
-abbrev pub call_of : Names → Names → Dest → Callee → List CArg → Instr
+abbrev pub call_of : Names → Names → Target → Callee → List CArg → Instr
 call_of names funs to (callee.Fun g) args = instr.Call to (position_of g funs) (map (operand_in names) args)
 call_of names funs to (callee.Op op) args = instr.Does to (action_of names op args)
 
-abbrev pub expr_instr : Names → Names → Dest → CExpr → Instr
+abbrev pub expr_instr : Names → Names → Target → CExpr → Instr
 expr_instr names funs to (expr.Atom a) = instr.Does to (action.Copy (operand_of names a))
 expr_instr names funs to (expr.Call c) = call_of names funs to c.callee c.args
 
@@ -114,14 +111,14 @@ first_of (loop l body rest) at on = at
 -- the lines of code that stands at a place, in front of others, where the function goes on at another after it: one a statement
 abbrev pub lines : Names → Names → Code → ℕ → ℕ → List Line → List Line
 lines names funs done at on others = others
-lines names funs (assign x e rest) at on others = line (expr_instr names funs (dest.Local (position_of x names)) e) (first_of rest (suc at) on) ∷ lines names funs rest (suc at) on others
-lines names funs (call c rest) at on others = line (call_of names funs dest.Nowhere c.callee c.args) (first_of rest (suc at) on) ∷ lines names funs rest (suc at) on others
-lines names funs (return e rest) at on others = line (expr_instr names funs dest.Caller e) (first_of rest (suc at) on) ∷ lines names funs rest (suc at) on others
+lines names funs (assign x e rest) at on others = line (expr_instr names funs (target.Local (position_of x names)) e) (first_of rest (suc at) on) ∷ lines names funs rest (suc at) on others
+lines names funs (call c rest) at on others = line (call_of names funs target.Nowhere c.callee c.args) (first_of rest (suc at) on) ∷ lines names funs rest (suc at) on others
+lines names funs (return e rest) at on others = line (expr_instr names funs target.Caller e) (first_of rest (suc at) on) ∷ lines names funs rest (suc at) on others
 lines names funs (test e a b rest) at on others =
     let m = suc at + size a in
     let k = m + size b in
     let after = first_of rest k on in
-    line (expr_instr names funs (dest.Test (first_of b m after)) e) (first_of a (suc at) after)
+    line (expr_instr names funs (target.Test (first_of b m after)) e) (first_of a (suc at) after)
     ∷ lines names funs a (suc at) after (lines names funs b m after (lines names funs rest k on others))
 lines names funs (loop l body rest) at on others =
     let k = suc at + size body in

@@ -3,7 +3,7 @@ use Rattle.std.specs.Prelude.{ℕ, ◌-◌, List, [], ◌∷◌}
 use Rattle.c_tree.specs.declared.pieces.Piece.{Piece}
 use Rattle.c_tree.specs.declared.pieces.Piece.TheVariants as piece
 use Rattle.c_meaning.specs.Execution.{Names, position_of}
-use Rattle.c_machine.specs.declared.program.Dest.TheVariants as dest
+use Rattle.c_machine.specs.declared.program.Target.TheVariants as target
 use Rattle.c_machine.specs.declared.program.Instr.{Instr}
 use Rattle.c_machine.specs.declared.program.Instr.TheVariants as instr
 use Rattle.c_machine.specs.declared.lines.Open.{Open}
@@ -39,10 +39,10 @@ second_in (o ∷ os) = o.second
 
 -- one more piece, in front of those that were decoded
 abbrev pub decoded : Names → Names → Piece → Decoding → Decoding
-decoded names funs (piece.Assign x e) d = put (expr_instr names funs (dest.Local (position_of x names)) e) d
-decoded names funs (piece.Call c) d = put (call_of names funs dest.Nowhere c.callee c.args) d
-decoded names funs (piece.Return e) d = put (expr_instr names funs dest.Caller e) d
-decoded names funs (piece.If e) d = put (expr_instr names funs (dest.Test (second_in d.blocks)) e) (begun d.blocks d)
+decoded names funs (piece.Assign x e) d = put (expr_instr names funs (target.Local (position_of x names)) e) d
+decoded names funs (piece.Call c) d = put (call_of names funs target.Nowhere c.callee c.args) d
+decoded names funs (piece.Return e) d = put (expr_instr names funs target.Caller e) d
+decoded names funs (piece.If e) d = put (expr_instr names funs (target.Test (second_in d.blocks)) e) (begun d.blocks d)
 decoded names funs piece.Else d = parted d.blocks d
 decoded names funs (piece.Loop l) d = put instr.Turn (begun d.blocks d)
 decoded names funs piece.End d = ended d

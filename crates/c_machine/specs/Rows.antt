@@ -3,15 +3,15 @@ use Rattle.std.specs.Prelude.{◌≡◌, List, [], ◌∷◌, refl}
 use Rattle.c_tree.specs.Rows.{x, nested}
 use Rattle.c_machine.specs.declared.program.Operand.{Operand}
 use Rattle.c_machine.specs.declared.program.Operand.TheVariants as operand
-use Rattle.c_machine.specs.declared.program.Dest.{Dest}
-use Rattle.c_machine.specs.declared.program.Dest.TheVariants as dest
+use Rattle.c_machine.specs.declared.program.Target.{Target}
+use Rattle.c_machine.specs.declared.program.Target.TheVariants as target
 use Rattle.c_machine.specs.declared.program.Action.TheVariants as action
 use Rattle.c_machine.specs.declared.program.Instr.{Instr}
 use Rattle.c_machine.specs.declared.program.Instr.TheVariants as instr
 use Rattle.c_machine.specs.declared.program.Line.{Line}
 use Rattle.c_machine.specs.Decoded.{line, code_of}
 
-abbrev pub copy : Dest → Operand → Instr
+abbrev pub copy : Target → Operand → Instr
 copy to from = instr.Does to (action.Copy from)
 
 -- `L0: for (;;) { if (x0) { x0 = 1; } else { if (1) { } else { return 2; } } return 3; }`
@@ -19,11 +19,11 @@ abbrev pub nested_lines : List Line
 nested_lines =
     line instr.Give 1
     ∷ line instr.Turn 2
-    ∷ line (copy (dest.Test 4) (operand.Local 0)) 3
-    ∷ line (copy (dest.Local 0) (operand.Word 1)) 6
-    ∷ line (copy (dest.Test 5) (operand.Word 1)) 6
-    ∷ line (copy dest.Caller (operand.Word 2)) 6
-    ∷ line (copy dest.Caller (operand.Word 3)) 7
+    ∷ line (copy (target.Test 4) (operand.Local 0)) 3
+    ∷ line (copy (target.Local 0) (operand.Word 1)) 6
+    ∷ line (copy (target.Test 5) (operand.Word 1)) 6
+    ∷ line (copy target.Caller (operand.Word 2)) 6
+    ∷ line (copy target.Caller (operand.Word 3)) 7
     ∷ line instr.Turn 7
     ∷ []
 

@@ -1,13 +1,25 @@
 -- One step of the machine, over lists.
-use Rattle.std.specs.Prelude.{◌≡◌, ℕ, zero, suc, ◌+◌, ◌<◌, ◌^◌, ◌%◌, List, [], ◌∷◌, ◌++◌, map, codes, Option, Some, None, ℤ, ◌+ℤ◌, nat_eq, if◌then◌else◌, length, slice_get, slice_index, slice_set, take, replicate}
+use Rattle.std.specs.Prelude.{◌≡◌, ℕ, zero, suc, ◌+◌, ◌<◌, ◌^◌, ◌%◌, List, [], ◌∷◌, ◌++◌, map, Option, Some, None, ℤ, ◌+ℤ◌, nat_eq, if◌then◌else◌, length, slice_get, slice_index, slice_set, take, replicate}
 use Rattle.scheme_data.specs.Fixnum.{IsFixnum, is_fixnum, fixnum_word, long_word}
 use Rattle.base_io.specs.declared.end.End.{End}
 use Rattle.base_io.specs.declared.end.End.TheVariants.{Ended, Raised, Spent, Fault}
 use Rattle.base_io.specs.declared.end.FaultKind.TheVariants.{Tag, Entry}
+use Rattle.prim_table.specs.Errors.{number_of}
+use Rattle.prim_table.specs.declared.errors.ErrCode.TheVariants.{WrongType, Range}
+use Rattle.built_table.specs.Table.{name_of, type_name}
+use Rattle.built_table.specs.declared.primitives.Ty.TheVariants as types
+use Rattle.built_table.specs.declared.primitives.Primitive.{Primitive}
+use Rattle.built_table.specs.declared.primitives.Primitive.TheVariants.{Add, Less, Display, Newline}
+use Rattle.c_tree.specs.declared.tree.CTy.TheVariants.{Long}
+use Rattle.c_tree.specs.declared.op.Wants.{Wants}
+use Rattle.c_tree.specs.declared.op.Wants.TheVariants.{AType}
+use Rattle.c_tree.specs.declared.op.Op.TheVariants.{Primitive as Prim_op}
+use Rattle.c_tree.specs.Operations.{wants_of}
+use Rattle.c_meaning.specs.Word.{Nil, Unspec, bits_of}
 use Rattle.c_machine.specs.declared.program.Operand.{Operand}
 use Rattle.c_machine.specs.declared.program.Operand.TheVariants as operand
-use Rattle.c_machine.specs.declared.program.Dest.{Dest}
-use Rattle.c_machine.specs.declared.program.Dest.TheVariants as dest
+use Rattle.c_machine.specs.declared.program.Target.{Target}
+use Rattle.c_machine.specs.declared.program.Target.TheVariants as target
 use Rattle.c_machine.specs.declared.program.Action.{Action}
 use Rattle.c_machine.specs.declared.program.Action.TheVariants as action
 use Rattle.c_machine.specs.declared.program.Instr.{Instr}
@@ -44,11 +56,19 @@ pub data Gave : Type 0 where
   Gives : (value : ℕ) (bytes : List ℕ) → Gave
   Quits : (e : End) → Gave
 
-abbrev pub sum_of : ℤ → Gave
-sum_of n = if is_fixnum n then Gives (long_word n) [] else Quits (Raised 3 (codes "+"))
+-- a number that a primitive makes, where it is a fixnum
+abbrev pub ranged : Primitive → ℤ → Gave
+ranged p n = if is_fixnum n then Gives (long_word n) [] else Quits (Raised (number_of Range) (name_of p))
 
 abbrev pub unboxed_of : ℕ → Gave
-unboxed_of w = if nat_eq (w % 8) 0 then Gives (long_word (fixnum_of w)) [] else Quits (Raised 1 (codes "long"))
+unboxed_of w = if nat_eq (w % 8) 0 then Gives (long_word (fixnum_of w)) [] else Quits (Raised (number_of WrongType) (type_name types.Long))
+
+-- what a primitive does with these values, of which it takes the first
+abbrev pub acted : Primitive → ℕ → ℕ → ℕ → Gave
+acted Add a b c = ranged Add (long_of a +ℤ long_of b)
+acted Less a b c = Gives (less_of (long_of a) (long_of b)) []
+acted Display a b c = Gives (bits_of Unspec) (word_text a)
+acted Newline a b c = Gives (bits_of Unspec) (10 ∷ [])
 
 abbrev pub performed : Action → ℕ → List ℕ → Gave
 performed (action.Copy a) base slots = Gives (look base slots a) []
@@ -57,29 +77,26 @@ performed (action.BoxBool a) base slots = Gives (boxed_truth_of (look base slots
 performed (action.UnboxLong a) base slots = unboxed_of (look base slots a)
 performed (action.Truth a) base slots = Gives (truth_of (look base slots a)) []
 performed (action.Raise code text) base slots = Quits (Raised code text)
-performed action.Args base slots = Gives 19 []
+performed action.Args base slots = Gives (bits_of Nil) []
 performed (action.Status a) base slots = Gives (status_of (look base slots a)) []
-performed (action.Add a b) base slots = sum_of (long_of (look base slots a) +ℤ long_of (look base slots b))
-performed (action.Less a b) base slots = Gives (less_of (long_of (look base slots a)) (long_of (look base slots b))) []
-performed (action.Display a) base slots = Gives 27 (word_text (look base slots a))
-performed action.Newline base slots = Gives 27 (10 ∷ [])
+performed (action.Primitive p a b c) base slots = acted p (look base slots a) (look base slots b) (look base slots c)
 
 -- the next state and what is written, or the end
 pub data Move : Type 0 where
   Goes : (next : Config) (bytes : List ℕ) → Move
   Ends : (e : End) → Move
 
-abbrev pub delivered : Dest → ℕ → Config → Config
-delivered (dest.Local x) v c = record { fun = c.fun; pc = c.pc; base = c.base; turns = c.turns; slots = slice_set c.slots (c.base + x) v; frames = c.frames; value = v }
-delivered dest.Nowhere v c = record { fun = c.fun; pc = c.pc; base = c.base; turns = c.turns; slots = c.slots; frames = c.frames; value = v }
-delivered dest.Caller v c = record { fun = c.fun; pc = 0; base = c.base; turns = c.turns; slots = c.slots; frames = c.frames; value = v }
-delivered (dest.Test other) v c = record { fun = c.fun; pc = if nat_eq v 0 then other else c.pc; base = c.base; turns = c.turns; slots = c.slots; frames = c.frames; value = v }
+abbrev pub delivered : Target → ℕ → Config → Config
+delivered (target.Local x) v c = record { fun = c.fun; pc = c.pc; base = c.base; turns = c.turns; slots = slice_set c.slots (c.base + x) v; frames = c.frames; value = v }
+delivered target.Nowhere v c = record { fun = c.fun; pc = c.pc; base = c.base; turns = c.turns; slots = c.slots; frames = c.frames; value = v }
+delivered target.Caller v c = record { fun = c.fun; pc = 0; base = c.base; turns = c.turns; slots = c.slots; frames = c.frames; value = v }
+delivered (target.Test other) v c = record { fun = c.fun; pc = if nat_eq v 0 then other else c.pc; base = c.base; turns = c.turns; slots = c.slots; frames = c.frames; value = v }
 
-abbrev pub sent : Dest → Gave → Config → Move
+abbrev pub sent : Target → Gave → Config → Move
 sent to (Gives v bytes) c = Goes (delivered to v c) bytes
 sent to (Quits e) c = Ends e
 
-abbrev pub called : Option Function → Dest → ℕ → List Operand → Config → Move
+abbrev pub called : Option Function → Target → ℕ → List Operand → Config → Move
 called None to g args c = Ends (Fault Entry)
 called (Some f) to g args c = Goes (record {
   fun = g;
@@ -123,6 +140,16 @@ abbrev pub ReadsAll : ℕ → List ℕ → List Operand → Type 0
 ReadsAll base slots [] = Unit {0}
 ReadsAll base slots (a ∷ others) = Reads base slots a × ReadsAll base slots others
 
+-- a number is the bits of a fixnum
+abbrev pub NeedsOperand : ℕ → List ℕ → Wants → Operand → Type 0
+NeedsOperand base slots (AType Long) a = ReadsNumber base slots a
+NeedsOperand base slots _ a = Reads base slots a
+
+abbrev pub NeedsOperands : ℕ → List ℕ → List Wants → List Operand → Type 0
+NeedsOperands base slots [] others = Unit {0}
+NeedsOperands base slots (w ∷ ws) [] = ⊥
+NeedsOperands base slots (w ∷ ws) (a ∷ others) = NeedsOperand base slots w a × NeedsOperands base slots ws others
+
 abbrev pub NeedsAction : Action → ℕ → List ℕ → Type 0
 NeedsAction (action.Copy a) base slots = Reads base slots a
 NeedsAction (action.BoxLong a) base slots = ReadsNumber base slots a
@@ -132,23 +159,20 @@ NeedsAction (action.Truth a) base slots = Reads base slots a
 NeedsAction (action.Raise code text) base slots = Unit {0}
 NeedsAction action.Args base slots = Unit {0}
 NeedsAction (action.Status a) base slots = Reads base slots a
-NeedsAction (action.Add a b) base slots = ReadsNumber base slots a × ReadsNumber base slots b
-NeedsAction (action.Less a b) base slots = Reads base slots a × Reads base slots b
-NeedsAction (action.Display a) base slots = Reads base slots a
-NeedsAction action.Newline base slots = Unit {0}
+NeedsAction (action.Primitive p a b c) base slots = NeedsOperands base slots (wants_of (Prim_op p)) (a ∷ b ∷ c ∷ [])
 
-abbrev pub NeedsDest : Dest → ℕ → List ℕ → Type 0
-NeedsDest (dest.Local x) base slots = base + x < length slots
-NeedsDest dest.Nowhere base slots = Unit {0}
-NeedsDest dest.Caller base slots = Unit {0}
-NeedsDest (dest.Test other) base slots = Unit {0}
+abbrev pub NeedsTarget : Target → ℕ → List ℕ → Type 0
+NeedsTarget (target.Local x) base slots = base + x < length slots
+NeedsTarget target.Nowhere base slots = Unit {0}
+NeedsTarget target.Caller base slots = Unit {0}
+NeedsTarget (target.Test other) base slots = Unit {0}
 
 abbrev pub NeedsFrames : List Frame → Config → Type 0
 NeedsFrames [] c = c.value < 256
-NeedsFrames (f ∷ fs) c = NeedsDest f.to f.base (take c.base c.slots)
+NeedsFrames (f ∷ fs) c = NeedsTarget f.to f.base (take c.base c.slots)
 
 abbrev pub Needs : Instr → List Function → Config → Type 0
-Needs (instr.Does to a) funs c = NeedsDest to c.base c.slots × NeedsAction a c.base c.slots
+Needs (instr.Does to a) funs c = NeedsTarget to c.base c.slots × NeedsAction a c.base c.slots
 Needs (instr.Call to g args) funs c = (g < length funs) × ReadsAll c.base c.slots args
 Needs instr.Turn funs c = Unit {0}
 Needs instr.Give funs c = NeedsFrames c.frames c

@@ -4,7 +4,7 @@ ghost use Rattle.base_io.specs.declared.end.End.{End};
 ghost use Rattle.c_machine.specs.Steps.{config_of, look, called, returned, turned, Moves, NeedsFrames, ReadsAll};
 
 use crate::performing::value;
-use crate::program::{BLOCK, Dest, FIRST, Function, Operand};
+use crate::program::{BLOCK, FIRST, Function, Operand, Target};
 use crate::stepping::{Acc, Flow, Frame, Regs, Stacks, deliver};
 use base_io::End;
 use scheme_data::List;
@@ -93,7 +93,7 @@ fn push_frame(stacks: &mut Stacks, args: &[Operand], locals: usize, frame: Frame
 #[inline(always)]
 pub fn call(
     callee: &Function,
-    to: Dest,
+    to: Target,
     fun: usize,
     args: &List<Operand>,
     regs: &mut Regs,

@@ -3,9 +3,8 @@ ghost use Rattle.std.specs.Prelude.{◌≡◌, map, slice_get, IfOk};
 ghost use Rattle.c_machine.specs.Decoded.{operand_of, operand_in, operand_at, code_in, text_in, action_of, call_of, expr_instr};
 
 use crate::names::place;
-use crate::program::{Action, Dest, Instr, Operand};
-use crate::words::{bits_of, byte};
-use built_table::Primitive;
+use crate::program::{Action, Instr, Operand, Target};
+use crate::words::{EOF, FALSE, NIL, TRUE, UNSPEC, bits_of, byte};
 use c_tree::{CArg, CAtom, CCall, CExpr, Callee, Op};
 use name_table::NameTable;
 use scheme_data::{List, OutOfMemory, Text};
@@ -17,11 +16,11 @@ fn atom(names: &NameTable, a: &CAtom) -> Operand
     match a {
         CAtom::Int(n) => Operand::Word(bits_of(*n)),
         CAtom::Name(x) => Operand::Local(place(names, x.as_bytes())),
-        CAtom::False => Operand::Word(3),
-        CAtom::True => Operand::Word(11),
-        CAtom::Nil => Operand::Word(19),
-        CAtom::Unspec => Operand::Word(27),
-        CAtom::Eof => Operand::Word(35),
+        CAtom::False => Operand::Word(FALSE),
+        CAtom::True => Operand::Word(TRUE),
+        CAtom::Nil => Operand::Word(NIL),
+        CAtom::Unspec => Operand::Word(UNSPEC),
+        CAtom::Eof => Operand::Word(EOF),
     }
 }
 
@@ -91,16 +90,12 @@ fn action(
         Op::Raise => Ok(Action::Raise(code_at(args), text_at(alloc, args)?)),
         Op::Args => Ok(Action::Args),
         Op::Status => Ok(Action::Status(argument_at(names, args, 0))),
-        Op::Primitive(Primitive::Add) => Ok(Action::Add(
+        Op::Primitive(p) => Ok(Action::Primitive(
+            p,
             argument_at(names, args, 0),
             argument_at(names, args, 1),
+            argument_at(names, args, 2),
         )),
-        Op::Primitive(Primitive::Less) => Ok(Action::Less(
-            argument_at(names, args, 0),
-            argument_at(names, args, 1),
-        )),
-        Op::Primitive(Primitive::Display) => Ok(Action::Display(argument_at(names, args, 0))),
-        Op::Primitive(Primitive::Newline) => Ok(Action::Newline),
     }
 }
 
@@ -108,7 +103,7 @@ pub fn call(
     alloc: Global,
     names: &NameTable,
     funs: &NameTable,
-    to: Dest,
+    to: Target,
     c: &CCall,
 ) -> Result<Instr, OutOfMemory>
     ensures { IfOk result (λ i. i ≡ call_of names.now funs.now to c.now.callee c.now.args) }
@@ -127,7 +122,7 @@ pub fn expression(
     alloc: Global,
     names: &NameTable,
     funs: &NameTable,
-    to: Dest,
+    to: Target,
     e: &CExpr,
 ) -> Result<Instr, OutOfMemory>
     ensures { IfOk result (λ i. i ≡ expr_instr names.now funs.now to e.now) }

@@ -7,7 +7,7 @@ ghost use Rattle.c_machine.specs.declared.program.Instr.TheVariants.{Give};
 
 use crate::instructions::{call, expression};
 use crate::names::place;
-use crate::program::{Dest, FIRST, Instr, Line};
+use crate::program::{FIRST, Instr, Line, Target};
 use c_tree::{CStmt, PieceRef};
 use name_table::NameTable;
 use scheme_data::{List, OutOfMemory, Stack};
@@ -108,13 +108,13 @@ impl Decoding {
     {
         match s {
             CStmt::Assign(x, e) => {
-                let to = Dest::Local(place(names, x.as_bytes()));
+                let to = Target::Local(place(names, x.as_bytes()));
                 self.put(expression(alloc, names, funs, to, e)?)
             }
-            CStmt::Call(c) => self.put(call(alloc, names, funs, Dest::Nowhere, c)?),
-            CStmt::Return(e) => self.put(expression(alloc, names, funs, Dest::Caller, e)?),
+            CStmt::Call(c) => self.put(call(alloc, names, funs, Target::Nowhere, c)?),
+            CStmt::Return(e) => self.put(expression(alloc, names, funs, Target::Caller, e)?),
             CStmt::If(e, _, _) => {
-                let to = Dest::Test(self.begin());
+                let to = Target::Test(self.begin());
                 self.put(expression(alloc, names, funs, to, e)?)
             }
             CStmt::Loop(_, _) => {

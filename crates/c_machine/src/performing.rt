@@ -1,15 +1,19 @@
 // Actions.
-ghost use Rattle.std.specs.Prelude.{◌≡◌, ◌≤◌, ◌+ℤ◌};
+ghost use Rattle.std.specs.Prelude.{◌≡◌, ◌≤◌, ◌+ℤ◌, [], ◌∷◌};
 ghost use Rattle.scheme_data.specs.Fixnum.{IsFixnum};
 ghost use Rattle.base_io.specs.Causes.{Rose};
 ghost use Rattle.base_io.specs.declared.end.End.TheVariants.{Raised};
-ghost use Rattle.c_machine.specs.Steps.{look, performed, Reads, NeedsAction, Performs, Stopped, Yields, sum_of, unboxed_of};
+ghost use Rattle.c_tree.specs.declared.op.Op.{Op};
+ghost use Rattle.c_tree.specs.Operations.{wants_of};
+ghost use Rattle.c_machine.specs.Steps.{look, acted, performed, Reads, NeedsOperands, NeedsAction, Performs, Stopped, Yields, ranged, unboxed_of};
 ghost use Rattle.c_machine.specs.Words.{long_of};
 
-use crate::output::{display, put_all};
+use crate::output::{display, write_all};
 use crate::program::{Action, Operand};
 use crate::stepping::{Acc, Flow};
-use crate::words::{bits_of, boxed, boxed_truth, is_less, number_of, status, truth, unboxed};
+use crate::words::{
+    NIL, UNSPEC, bits_of, boxed, boxed_truth, is_less, number_of, status, truth, unboxed,
+};
 use base_io::{End, Sink};
 use built_table::{Primitive, Ty};
 use prim_table::ErrCode;
@@ -41,18 +45,25 @@ fn raise(alloc: Global, code: u8, text: &[u8], acc: &mut Acc) -> Flow
     }
 }
 
+// The number that a primitive makes, where it is a fixnum.
+#[inline(always)]
+fn ranged(alloc: Global, p: Primitive, n: i64, acc: &mut Acc) -> Flow
+    ensures { Yields (ranged p n) result acc.new.value acc.new.end }
+{
+    if !is_in_range(n) {
+        return raise(alloc, ErrCode::Range.number(), p.name(), acc);
+    }
+    acc.value = bits_of(n);
+    Flow::Going
+}
+
 #[inline(always)]
 fn sum(alloc: Global, a: u64, b: u64, acc: &mut Acc) -> Flow
     requires left { IsFixnum (long_of a) }
     requires right { IsFixnum (long_of b) }
-    ensures { Yields (sum_of (long_of a +ℤ long_of b)) result acc.new.value acc.new.end }
+    ensures { Yields (ranged Primitive.Add (long_of a +ℤ long_of b)) result acc.new.value acc.new.end }
 {
-    let n = number_of(a) + number_of(b);
-    if !is_in_range(n) {
-        return raise(alloc, ErrCode::Range.number(), Primitive::Add.name(), acc);
-    }
-    acc.value = bits_of(n);
-    Flow::Going
+    ranged(alloc, Primitive::Add, number_of(a) + number_of(b), acc)
 }
 
 #[inline(always)]
@@ -88,20 +99,40 @@ pub fn perform<K: Sink>(
         Action::UnboxLong(a) => unbox(alloc, value(base, slots, a), acc),
         Action::Truth(a) => give_value(acc, truth(value(base, slots, a))),
         Action::Raise(code, text) => raise(alloc, *code, text.as_bytes(), acc),
-        Action::Args => give_value(acc, 19),
+        Action::Args => give_value(acc, NIL),
         Action::Status(a) => give_value(acc, status(value(base, slots, a))),
-        Action::Add(a, b) => sum(alloc, value(base, slots, a), value(base, slots, b), acc),
-        Action::Less(a, b) => give_value(
-            acc,
-            is_less(value(base, slots, a), value(base, slots, b)),
-        ),
-        Action::Display(a) => {
-            acc.value = 27;
+        Action::Primitive(p, a, b, c) => act(alloc, *p, base, slots, a, b, c, acc, out),
+    }
+}
+
+// Makes the value of a primitive.
+#[inline(always)]
+fn act<K: Sink>(
+    alloc: Global,
+    p: Primitive,
+    base: usize,
+    slots: &[u64],
+    a: &Operand,
+    b: &Operand,
+    c: &Operand,
+    acc: &mut Acc,
+    out: &mut K,
+) -> Flow
+    requires { NeedsOperands base slots.now (wants_of (Op.Primitive p)) (a.now ∷ b.now ∷ c.now ∷ []) }
+    ensures does { Performs (acted p (look base slots.now a.now) (look base slots.now b.now) (look base slots.now c.now)) result acc.new.value acc.new.end (K.written out.old) (K.written out.new) }
+    ensures later { K.faults out.old ≤ K.faults out.new }
+    ensures cause { result ≡ Flow.WriteFault → Rose (K.faults out.old) (K.faults out.new) }
+{
+    match p {
+        Primitive::Add => sum(alloc, value(base, slots, a), value(base, slots, b), acc),
+        Primitive::Less => give_value(acc, is_less(value(base, slots, a), value(base, slots, b))),
+        Primitive::Display => {
+            acc.value = UNSPEC;
             display(out, value(base, slots, a))
         }
-        Action::Newline => {
-            acc.value = 27;
-            put_all(out, b"\n")
+        Primitive::Newline => {
+            acc.value = UNSPEC;
+            write_all(out, b"\n")
         }
     }
 }

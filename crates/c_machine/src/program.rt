@@ -1,4 +1,5 @@
 // Decoded programs.
+use built_table::Primitive;
 use scheme_data::{List, Text};
 
 /// Where a value comes from: a local by its place, or the word itself.
@@ -10,7 +11,7 @@ pub enum Operand {
 
 /// Where a value goes: to a local by its place, nowhere, or to the caller. Or it is a condition: where it is 0, the function goes on at this place.
 #[derive(Clone, Copy, Debug)]
-pub enum Dest {
+pub enum Target {
     Local(usize),
     Nowhere,
     Caller,
@@ -28,19 +29,17 @@ pub enum Action {
     Raise(u8, Text),
     Args,
     Status(Operand),
-    Add(Operand, Operand),
-    Less(Operand, Operand),
-    Display(Operand),
-    Newline,
+    /// Of a primitive, the operands that it takes, and then words that nothing reads.
+    Primitive(Primitive, Operand, Operand, Operand),
 }
 
 /// An instruction.
 #[derive(Drop, Debug)]
 pub enum Instr {
     /// Sends the value of an action.
-    Does(Dest, Action),
+    Does(Target, Action),
     /// Calls a function by its place, and sends what it gives.
-    Call(Dest, usize, List<Operand>),
+    Call(Target, usize, List<Operand>),
     /// Takes the turn that begins an iteration.
     Turn,
     /// Ends the function with the value that was sent to its caller.

@@ -2,11 +2,11 @@
 ghost use Rattle.std.specs.Prelude.{◌≡◌, ◌≤◌, ◌<◌, length, slice_get, IsSome, Some};
 ghost use Rattle.base_io.specs.Causes.{Rose};
 ghost use Rattle.c_machine.specs.Decoded.{line};
-ghost use Rattle.c_machine.specs.Steps.{config_of, performed, delivered, sent, NeedsDest, NeedsAction, Needs, act, Does, line_at};
+ghost use Rattle.c_machine.specs.Steps.{config_of, performed, delivered, sent, NeedsTarget, NeedsAction, Needs, act, Does, line_at};
 
 use crate::calling::{call, give, over, turn};
 use crate::performing::perform;
-use crate::program::{Action, Dest, Function, GIVE, Instr};
+use crate::program::{Action, Function, GIVE, Instr, Target};
 use base_io::{End, FaultKind, Sink};
 use scheme_data::Stack;
 use std::alloc::Global;
@@ -30,7 +30,7 @@ pub struct Acc {
 /// A function that waits for the value of its call.
 #[derive(Clone, Copy)]
 pub struct Frame {
-    pub to: Dest,
+    pub to: Target,
     pub fun: usize,
     pub next: usize,
     pub base: usize,
@@ -53,18 +53,18 @@ pub enum Flow {
 
 /// Sends a value.
 #[inline(always)]
-pub fn deliver(to: Dest, v: u64, regs: &mut Regs, stacks: &mut Stacks)
-    requires { NeedsDest to regs.old.base stacks.old.slots.items }
+pub fn deliver(to: Target, v: u64, regs: &mut Regs, stacks: &mut Stacks)
+    requires { NeedsTarget to regs.old.base stacks.old.slots.items }
     ensures { config_of regs.new stacks.new v ≡ delivered to v (config_of regs.old stacks.old v) }
 {
     match to {
-        Dest::Local(x) => {
+        Target::Local(x) => {
             let at = regs.base + x;
             stacks.slots[at] = v;
         }
-        Dest::Nowhere => {}
-        Dest::Caller => regs.pc = GIVE,
-        Dest::Test(other) => {
+        Target::Nowhere => {}
+        Target::Caller => regs.pc = GIVE,
+        Target::Test(other) => {
             if v == 0 {
                 regs.pc = other;
             }
@@ -75,14 +75,14 @@ pub fn deliver(to: Dest, v: u64, regs: &mut Regs, stacks: &mut Stacks)
 #[inline(always)]
 fn does<K: Sink>(
     alloc: Global,
-    to: Dest,
+    to: Target,
     action: &Action,
     regs: &mut Regs,
     acc: &mut Acc,
     stacks: &mut Stacks,
     out: &mut K,
 ) -> Flow
-    requires to { NeedsDest to regs.old.base stacks.old.slots.items }
+    requires to { NeedsTarget to regs.old.base stacks.old.slots.items }
     requires action { NeedsAction action.now regs.old.base stacks.old.slots.items }
     ensures does { Does (sent to (performed action.now regs.old.base stacks.old.slots.items) (config_of regs.old stacks.old acc.old.value)) result (config_of regs.new stacks.new acc.new.value) acc.new.end (K.written out.old) (K.written out.new) }
     ensures later { K.faults out.old ≤ K.faults out.new }

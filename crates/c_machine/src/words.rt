@@ -5,6 +5,17 @@ ghost use Rattle.c_machine.specs.Words.{long_of, fixnum_of, constant_text, byte_
 
 use scheme_data::{box_long, is_long, unbox_long};
 
+/// The words that are no fixnums.
+pub const FALSE: u64 = 3;
+
+pub const TRUE: u64 = 11;
+
+pub const NIL: u64 = 19;
+
+pub const UNSPEC: u64 = 27;
+
+pub const EOF: u64 = 35;
+
 #[inline(always)]
 pub fn bits_of(n: i64) -> u64
     ensures { result ≡ long_word n }
@@ -65,7 +76,7 @@ pub fn status(w: u64) -> u64
 pub fn truth(w: u64) -> u64
     ensures { result ≡ truth_of w }
 {
-    u64::from(w != 3)
+    u64::from(w != FALSE)
 }
 
 /// A truth value as a word: `#f` of 0, and `#t` of all else.
@@ -73,7 +84,7 @@ pub fn truth(w: u64) -> u64
 pub fn boxed_truth(v: u64) -> u64
     ensures { result ≡ boxed_truth_of v }
 {
-    if v == 0 { 3 } else { 11 }
+    if v == 0 { FALSE } else { TRUE }
 }
 
 /// 1 where the first number is the smaller one, and else 0.
@@ -88,16 +99,16 @@ pub fn is_less(a: u64, b: u64) -> u64
 pub fn text_of_constant(w: u64) -> &'static [u8]
     ensures { result.now ≡ constant_text w }
 {
-    if w == 3 {
+    if w == FALSE {
         return b"#f";
     }
-    if w == 11 {
+    if w == TRUE {
         return b"#t";
     }
-    if w == 19 {
+    if w == NIL {
         return b"()";
     }
-    if w == 27 {
+    if w == UNSPEC {
         return b"#unspecified";
     }
     b"#eof-object"

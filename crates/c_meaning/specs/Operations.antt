@@ -9,7 +9,7 @@ use Rattle.built_table.specs.declared.primitives.Ty.TheVariants as types
 use Rattle.built_table.specs.declared.primitives.Primitive.{Primitive}
 use Rattle.built_table.specs.declared.primitives.Primitive.TheVariants.{Add, Less, Display, Newline}
 use Rattle.c_tree.specs.declared.tree.CTy.{CTy}
-use Rattle.c_tree.specs.declared.tree.CTy.TheVariants.{Obj, Long, Char, Int}
+use Rattle.c_tree.specs.declared.tree.CTy.TheVariants.{Obj}
 use Rattle.c_tree.specs.declared.op.Wants.{Wants}
 use Rattle.c_tree.specs.declared.op.Wants.TheVariants.{AType, AnError, AText}
 use Rattle.c_tree.specs.declared.op.Op.{Op}

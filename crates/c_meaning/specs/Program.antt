@@ -4,6 +4,8 @@ use Rattle.base_io.specs.declared.end.End.{End}
 use Rattle.base_io.specs.Observation.{Observation}
 use Rattle.base_io.specs.declared.end.End.TheVariants.{Ended, Raised, Spent, Fault}
 use Rattle.base_io.specs.declared.end.FaultKind.TheVariants.{Tag, Entry}
+use Rattle.prim_table.specs.Errors.{number_of}
+use Rattle.prim_table.specs.declared.errors.ErrCode.TheVariants.{DeadExit}
 use Rattle.c_tree.specs.Code.{Fun, Item, declared, defined}
 use Rattle.c_meaning.specs.State.{Cell, AWord, ANumber, State, Flow, Next, Goes, Returns, Escapes, Raises, Spends, Fails}
 use Rattle.c_meaning.specs.Execution.{names_of, entry, exec_main, run, fun_named}
@@ -23,7 +25,7 @@ abbrev pub shown : Flow → Observation
 shown (Next f s) = record { output = s.output; end = Fault Tag }
 shown (Goes l f s) = record { output = s.output; end = Fault Tag }
 shown (Returns c s) = record { output = s.output; end = end_of c }
-shown (Escapes x w f s) = record { output = s.output; end = Raised 7 [] }
+shown (Escapes x w f s) = record { output = s.output; end = Raised (number_of DeadExit) [] }
 shown (Raises c t s) = record { output = s.output; end = Raised c t }
 shown (Spends s) = record { output = s.output; end = Spent }
 shown (Fails k s) = record { output = s.output; end = Fault k }

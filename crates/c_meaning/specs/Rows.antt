@@ -3,6 +3,8 @@ use Rattle.std.specs.Prelude.{◌≡◌, ℕ, List, [], ◌∷◌, ◌++◌, cod
 use Rattle.base_io.specs.declared.end.End.{End}
 use Rattle.base_io.specs.declared.end.End.TheVariants.{Ended, Raised, Spent}
 use Rattle.base_io.specs.Observation.{Observation}
+use Rattle.prim_table.specs.Errors.{number_of}
+use Rattle.prim_table.specs.declared.errors.ErrCode.TheVariants.{WrongType, ArgumentCount, Range}
 use Rattle.built_table.specs.declared.primitives.Primitive.TheVariants.{Add, Less, Display, Newline}
 use Rattle.scheme_data.specs.Decimal.{decimal_text}
 use Rattle.c_tree.specs.declared.op.Op.{Op}
@@ -76,7 +78,7 @@ no_turn_is_left : cm (go sum_locals (sum_shown 40 2) ∷ main ∷ []) [] [] 0 �
 unfolding cm decimal_text local_name function_name label_name
 no_turn_is_left = refl
 
-sum_leaves_range : cm (go sum_locals (sum_shown 1152921504606846975 1) ∷ main ∷ []) [] [] 1 ≡ observation [] (Raised 3 (codes "+"))
+sum_leaves_range : cm (go sum_locals (sum_shown 1152921504606846975 1) ∷ main ∷ []) [] [] 1 ≡ observation [] (Raised (number_of Range) (codes "+"))
 unfolding cm decimal_text local_name function_name label_name
 sum_leaves_range = refl
 
@@ -89,7 +91,7 @@ locals_start_as_0 : cm (go sum_locals (return (expr.Call (operation (Does Displa
 unfolding cm decimal_text local_name function_name label_name
 locals_start_as_0 = refl
 
-constant_is_no_long : cm (go sum_locals (assign (local_name 1) (expr.Call (operation UnboxLong (arg.Atom atom.Nil ∷ []))) done) ∷ main ∷ []) [] [] 1 ≡ observation [] (Raised 1 (codes "long"))
+constant_is_no_long : cm (go sum_locals (assign (local_name 1) (expr.Call (operation UnboxLong (arg.Atom atom.Nil ∷ []))) done) ∷ main ∷ []) [] [] 1 ≡ observation [] (Raised (number_of WrongType) (codes "long"))
 unfolding cm decimal_text local_name function_name label_name
 constant_is_no_long = refl
 
@@ -123,7 +125,7 @@ unfolding cm decimal_text local_name function_name label_name
 calls_take_turns = refl
 
 -- a string is the text of the error
-raise_ends : cm (go [] (call (operation Raise (number 2 ∷ arg.Str (codes "1") ∷ [])) done) ∷ main ∷ []) [] [] 1 ≡ observation [] (Raised 2 (codes "1"))
+raise_ends : cm (go [] (call (operation Raise (number (number_of ArgumentCount) ∷ arg.Str (codes "1") ∷ [])) done) ∷ main ∷ []) [] [] 1 ≡ observation [] (Raised (number_of ArgumentCount) (codes "1"))
 unfolding cm decimal_text local_name function_name label_name
 raise_ends = refl
 
