@@ -22,7 +22,7 @@ use Rattle.c_meaning.specs.Checked.{Signature, signature_of, same_signature, sig
 use Rattle.plan_rules.specs.Translation.{Name, TrFunction, IsEmpty, DefineNothing, TrForms, TrInitializer, TrFunctions, callees, IsDeclared, AreDeclared, c_name_of, Translated}
 use Rattle.simulation.proofs.Names.{not_main}
 use Rattle.c_tree.proofs.CNames.{function_name_parts}
-use Rattle.simulation.proofs.NameKinds.{never_once, maker_is_once, initializer_is_once}
+use Rattle.plan_rules.proofs.NameKinds.{never_once, maker_is_once, initializer_is_once}
 use Rattle.simulation.proofs.Members.{Has, all_have, each_passes}
 use Rattle.simulation.proofs.Links.{placed, formed_at, own_there}
 use Rattle.simulation.proofs.Signatures.{after, signature_same}
