@@ -2,6 +2,8 @@
 use Rattle.std.proofs.Common.{◌≡◌, ℕ, Bool, true, false, List, [], ◌∷◌, refl, sym, ap, ◌∙◌}
 use Rattle.std.specs.Prelude.{◌||◌, if◌then◌else◌, IsTrue}
 use Rattle.std.specs.List.{list_any}
+use Rattle.std.specs.Cmp.Lexicographic.{bytes_decides}
+use Rattle.std.proofs.lemmas.Bool.{false_from_ne_true}
 use Rattle.scheme_data.specs.Names.{are_distinct, is_same}
 use Rattle.scheme_data.specs.Symbols.{IsSymbol}
 use Rattle.c_tree.specs.Names.{function_name, maker_name, initializer_name, is_function_name, is_main, is_maker, is_initializer}
@@ -18,6 +20,10 @@ function_role m n = refl
 or_false : (b : Bool) → IsTrue (b || false) → b ≡ true
 or_false true e = refl
 or_false false e = absurd (cc)
+
+pub function_not_main : (m n : List ℕ) → is_main (function_name m n) ≡ false
+unfolding function_name
+function_not_main m n = refl
 
 -- a name that a function may have is a maker's, if it begins as one
 maker_is : (m : List ℕ) → IsTrue (is_function_name (maker_name m)) → is_maker (maker_name m) ≡ true
@@ -76,6 +82,9 @@ last_other m n = refl
 pub last_distinct : (m : List ℕ) → are_distinct (last_names m) ≡ true
 unfolding maker_name initializer_name
 last_distinct m = refl
+
+pub other_name : (a b : Name) → (a ≡ b → ⊥) → is_same a b ≡ false
+other_name a b ne = false_from_ne_true (is_same a b) (λ e. ne ((bytes_decides a b).0 e))
 
 -- Kinds of names ----------------------------------------------------------------------------
 
