@@ -102,15 +102,12 @@ pub count_is : (ns : List Node) → count (parts ns) ≡ length ns
 count_is [] = refl
 count_is (n ∷ ns) = ap suc (count_is ns)
 
-nat_same : (a b : ℕ) → a ≡ b → nat_eq a b ≡ true
-nat_same a b e = eq-eqb a b e
-
 nat_other : (a b : ℕ) (t : Bool) → nat_eq a b ≡ t → (a ≡ b → ⊥) → nat_eq a b ≡ false
 nat_other a b true e ne = absurd (ne (eqb-true a b e))
 nat_other a b false e ne = e
 
 pub right_count : (f : Callee) (ns : List Node) → length ns ≡ f.params → is_counted f (parts ns) ≡ true
-right_count f ns e = nat_same (count (parts ns)) f.params (count_is ns ∙ e)
+right_count f ns e = eq-eqb (count (parts ns)) f.params (count_is ns ∙ e)
 
 pub wrong_count : (f : Callee) (ns : List Node) → (length ns ≡ f.params → ⊥) → is_counted f (parts ns) ≡ false
 wrong_count f ns ne = nat_other (count (parts ns)) f.params (is_counted f (parts ns)) refl (λ e. ne (sym (count_is ns) ∙ e))

@@ -2,6 +2,7 @@
 use Rattle.std.proofs.Common.{rules, ◌≡◌, ℕ, zero, suc, List, [], ◌∷◌, ◌++◌, map, replicate, Bool, true, false, Option, Some, None, refl, sym, ap, ◌∙◌, subst, arith}
 use Rattle.std.specs.Prelude.{IsTrue, pos, ◌&&◌}
 use Rattle.std.proofs.lemmas.Bool.{and_from, eqb-true}
+use Rattle.std.specs.List.{AllZip}
 use Rattle.built_table.specs.declared.primitives.Ty.{Ty}
 use Rattle.built_table.specs.declared.primitives.Ty.TheVariants as ty
 use Rattle.built_table.specs.declared.primitives.Primitive.{Primitive as Builtin}
@@ -33,6 +34,7 @@ use Rattle.plan_rules.specs.declared.rep.Rep.{Rep}
 use Rattle.plan_rules.specs.declared.rep.Rep.TheVariants.{Obj, Long, Bool as Truth_rep}
 use Rattle.plan_rules.specs.Representation.{Slot, PlainAt, slot_of, rep_of, c_type_of, has_of, constant_expr, condition, operation, raise_count, raise_type, call_of, local, step}
 use Rattle.plan_rules.specs.Translation.{Name, IsLocal, Target, into, back, deliver, Statements, Coerced, Fits, AllFit, Applied, Branches, haves, objects, is_counted, c_name_of, TrConstant, TrVariable, TrVariableUnused, TrCounted, TrCall, Tr, TrUnused, TrAllUnused, TrLast, TrArguments}
+use Rattle.code_gen.proofs.Variables.{own_type}
 use Rattle.code_gen.specs.Settings.{Setting, scope_in, IsNode, AreNodes, TrIn, TrUnusedIn, TrAllUnusedIn, TrLastIn, TrArgumentsIn}
 
 same_c_type : (t u : CTy) → same_type t u ≡ true → t ≡ u
@@ -133,13 +135,7 @@ module _ (w : Setting) (sigs : List Signature) (vars : List CVar) (grounds : Gro
   fine_raise want = record { typed = refl; named = (tt, (refl, (tt, tt))) }
 
   fine_call : (c : CCall) (t : CTy) → FineCall c t → FineExpr (expr.Call c) t
-  fine_call c t h = record { fits = ap (is_the_type t) h.typed ∙ own t; named = h.named }
-    where
-      own : (t : CTy) → same_type t t ≡ true
-      own c_ty.Obj = refl
-      own c_ty.Long = refl
-      own c_ty.Char = refl
-      own c_ty.Int = refl
+  fine_call c t h = record { fits = ap (is_the_type t) h.typed ∙ own_type t; named = h.named }
 
   fine_refusal : (t : Ty) → FineCall (raise_type t) c_ty.Int
   fine_refusal t = record { typed = refl; named = (tt, (refl, (tt, tt))) }
@@ -217,16 +213,10 @@ module _ (w : Setting) (sigs : List Signature) (vars : List CVar) (grounds : Gro
   -- Arguments -------------------------------------------------------------------------------
 
   abbrev AreTyped : List Name → List Rep → Type 0
-  AreTyped [] [] = Unit {0}
-  AreTyped (y ∷ ys) (h ∷ hs) = IsLocal vars y (c_type_of h) × AreTyped ys hs
-  AreTyped [] (h ∷ hs) = ⊥
-  AreTyped (y ∷ ys) [] = ⊥
+  AreTyped ys hs = AllZip (λ y h. IsLocal vars y (c_type_of h)) ys hs
 
   abbrev AreMade : List Name → List Ty → Type 0
-  AreMade [] [] = Unit {0}
-  AreMade (y ∷ ys) (t ∷ ts) = IsLocal vars y (c_type_of (rep_of t)) × AreMade ys ts
-  AreMade [] (t ∷ ts) = ⊥
-  AreMade (y ∷ ys) [] = ⊥
+  AreMade ys ts = AllZip (λ y t. IsLocal vars y (c_type_of (rep_of t))) ys ts
 
   made_one : (t : Ty) (h : Rep) (live : List Name) (y : Name) (code : Code) (made : Name) (rest : Code) → Fits vars t (step t h) live y code made rest → IsLocal vars y (c_type_of h)
       → IsLocal vars made (c_type_of (rep_of t))

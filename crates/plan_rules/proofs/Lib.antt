@@ -6,3 +6,4 @@ pub mod ExampleUnits
 pub mod Examples
 pub mod FormExamples
 pub mod ImportExamples
+pub mod NameKinds

@@ -17,7 +17,7 @@ use Rattle.c_meaning.specs.Checked.{Signature, signature_of, same_signature, sig
 use Rattle.plan_rules.specs.Joined.{Part, main_function, joined}
 use Rattle.plan_rules.specs.Translation.{Name, c_name_of}
 use Rattle.simulation.specs.Law.{AreTranslated}
-use Rattle.simulation.proofs.NameKinds.{function_not_once, never_once, maker_is_once, initializer_is_once}
+use Rattle.plan_rules.proofs.NameKinds.{function_not_once, never_once, maker_is_once, initializer_is_once}
 use Rattle.c_tree.proofs.CNames.{named_function}
 use Rattle.simulation.proofs.Members.{Has}
 use Rattle.simulation.proofs.Links.{formed_at}

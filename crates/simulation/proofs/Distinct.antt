@@ -15,7 +15,7 @@ use Rattle.c_meaning.specs.Checked.{defined_names, items_fit}
 use Rattle.plan_rules.specs.Joined.{Part}
 use Rattle.plan_rules.specs.Translation.{Name, DefineNothing, TrInitializer, TrFunctions, outside_of, is_sound_with, Translated}
 use Rattle.simulation.specs.Law.{AreTranslated}
-use Rattle.simulation.proofs.NameKinds.{NameOf, a_function, a_maker, an_initializer, same_module}
+use Rattle.plan_rules.proofs.NameKinds.{NameOf, a_function, a_maker, an_initializer, same_module}
 use Rattle.simulation.proofs.Signatures.{defined_both}
 
 -- the items of all units

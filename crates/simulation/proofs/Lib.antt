@@ -17,8 +17,6 @@ pub mod Links
 pub mod Main
 pub mod MainItem
 pub mod Members
-pub mod NameKinds
-pub mod Names
 pub mod Nodes
 pub mod Primitives
 pub mod Restored

@@ -22,9 +22,8 @@ use Rattle.plan_rules.specs.Representation.{local}
 use Rattle.plan_rules.specs.Joined.{Part, first_local, second_local, calls_alone, call_main, main_code, main_function}
 use Rattle.plan_rules.specs.Translation.{Name}
 use Rattle.simulation.specs.Law.{AreTranslated}
-use Rattle.simulation.proofs.Names.{other_name}
 use Rattle.c_tree.proofs.CNames.{maker_name_part, initializer_name_part}
-use Rattle.simulation.proofs.NameKinds.{NameOf, a_function, a_maker, an_initializer, maker_is_once, initializer_is_once, function_not_once, other_kinds}
+use Rattle.plan_rules.proofs.NameKinds.{NameOf, a_function, a_maker, an_initializer, maker_is_once, initializer_is_once, function_not_once, other_kinds, other_name}
 use Rattle.c_tree.proofs.CNames.{named_maker, named_initializer}
 use Rattle.simulation.proofs.Members.{Has, named_there}
 use Rattle.simulation.proofs.Signatures.{or_later, defined_both}

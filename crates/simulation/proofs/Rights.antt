@@ -20,9 +20,8 @@ use Rattle.c_tree.specs.Code.{Fun, Item, declared, defined}
 use Rattle.c_tree.specs.Names.{maker_name, is_main}
 use Rattle.c_meaning.specs.Checked.{Signature, signature_of, same_signature, signature_named, agrees, is_called_once}
 use Rattle.plan_rules.specs.Translation.{Name, TrFunction, IsEmpty, DefineNothing, TrForms, TrInitializer, TrFunctions, callees, IsDeclared, AreDeclared, c_name_of, Translated}
-use Rattle.simulation.proofs.Names.{not_main}
 use Rattle.c_tree.proofs.CNames.{function_name_parts}
-use Rattle.simulation.proofs.NameKinds.{never_once, maker_is_once, initializer_is_once}
+use Rattle.plan_rules.proofs.NameKinds.{never_once, maker_is_once, initializer_is_once, function_not_main}
 use Rattle.simulation.proofs.Members.{Has, all_have, each_passes}
 use Rattle.simulation.proofs.Links.{placed, formed_at, own_there}
 use Rattle.simulation.proofs.Signatures.{after, signature_same}
@@ -114,7 +113,7 @@ found_right program (t ∷ sigs) n s right e = go (is_same t.name n) refl e (λ 
 
 -- none is of `main`
 pub right_not_main : (program : List ModuleTree) (s : Signature) → Right program s → is_main s.name ≡ false
-right_not_main program s (inl h) = ap is_main h.named ∙ not_main h.callee.module_name h.callee.name
+right_not_main program s (inl h) = ap is_main h.named ∙ function_not_main h.callee.module_name h.callee.name
 right_not_main program s (inr h) = go (is_main s.name) refl
   where
     go : (b : Bool) → is_main s.name ≡ b → is_main s.name ≡ false

@@ -17,7 +17,7 @@ use Rattle.plan_rules.specs.declared.rep.Rep.{Rep}
 use Rattle.plan_rules.specs.declared.rep.Rep.TheVariants.{Obj}
 use Rattle.plan_rules.specs.Representation.{Slot, PlainAt, Scope, slot_of}
 use Rattle.plan_rules.specs.Translation.{Name, In, Fresh, scope_of}
-use Rattle.simulation.proofs.Names.{other_name}
+use Rattle.plan_rules.proofs.NameKinds.{other_name}
 use Rattle.simulation.proofs.Frames.{names, Kept}
 use Rattle.simulation.proofs.Worlds.{World, IsRep, rep_moves, rep_grows, Grows, Words, no_words, a_word, Same}
 use Rattle.simulation.proofs.Ends.{Base, Moved}
