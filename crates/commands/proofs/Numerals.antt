@@ -10,7 +10,8 @@ use Rattle.std.proofs.lemmas.Bool.Decides.{nat_tests}
 use Rattle.std.proofs.lemmas.Fmt.{IsAscii-from_digits}
 use Rattle.std.proofs.lemmas.Str.{IsUtf8-from_ascii}
 use Rattle.std.proofs.lemmas.Str.Parse.{IsNumeralModel, numerals_by_value, parse_digits, digits_value_short}
-use Rattle.commands.specs.Numbers.{is_digit, is_numeral}
+use Rattle.scheme_data.specs.Decimal.{is_digit}
+use Rattle.commands.specs.Numbers.{is_numeral}
 
 models : IsNumeralModel (λ ds. list_all is_digit ds ≡ true) (digits_value 10)
 models = numerals_by_value (λ ds. list_all is_digit ds ≡ true) (search rules)

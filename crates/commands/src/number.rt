@@ -5,12 +5,14 @@ ghost use Rattle.std.specs.Str.Parse.{digits_value};
 ghost use Rattle.scheme_data.specs.Decimal.{is_digit};
 ghost use Rattle.commands.specs.Numbers.{number_up_to, is_numeral};
 
+use scheme_data::is_digit;
+
 const MOST_DIGITS: usize = 19;
 
 fn are_digits(word: &[u8]) -> bool
     ensures { result ≡ list_all is_digit word.now }
 {
-    word.iter().all(|b| b'0' <= *b && *b <= b'9')
+    word.iter().all(|b| is_digit(*b))
 }
 
 /// Whether the word is 1 to 19 digits, which is how many always fit in 64 bits.
