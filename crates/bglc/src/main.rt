@@ -2,6 +2,8 @@
 #![tactic(auto)]
 
 mod adapters;
+#[cfg(test)]
+mod faults;
 mod files;
 
 use adapters::{StdSink, StdSource};
@@ -9,21 +11,36 @@ use files::StdFiles;
 use scheme_data::{OutOfMemory, Text, TextList};
 use session::{Answer, bglc, message, status};
 use std::alloc::Global;
+use std::env::FillError;
+use std::io;
 use std::process::ExitCode;
-use std::{env, io};
+use std::rt::Env;
 
-// The status where memory is refused to `main` itself.
-const NO_MEMORY: u8 = 248;
+// The bytes of the word at a place, if there is one; they need not be UTF-8.
+fn word_at(alloc: Global, rt: &HostRuntime, at: usize) -> Result<Option<Text>, OutOfMemory> {
+    let mut room = Vec::new(alloc);
+    for power in 8..usize::BITS {
+        room.resize(1 << power, 0u8)?;
+        match rt.arg(at, room.as_mut_slice()) {
+            Ok(count) => {
+                room.truncate(count);
+                return Ok(Some(Text::from_bytes(alloc, room.as_slice())?));
+            }
+            Err(FillError::NotPresent) => return Ok(None),
+            Err(FillError::TooLong) => {}
+        }
+    }
+    Err(OutOfMemory)
+}
 
 // The words after the program's name.
 fn words_of(alloc: Global, rt: &HostRuntime) -> Result<TextList, OutOfMemory> {
     let mut words = TextList::new(alloc);
-    let Ok(mut args) = env::args(rt) else {
-        return Err(OutOfMemory);
-    };
-    let _ = args.next();
-    for arg in args {
-        words.push(Text::from_bytes(alloc, arg.as_bytes())?)?;
+    for at in 1..usize::MAX {
+        let Some(word) = word_at(alloc, rt, at)? else {
+            break;
+        };
+        words.push(word)?;
     }
     Ok(words)
 }
@@ -43,10 +60,6 @@ fn tell(rt: &HostRuntime, answer: &Answer) {
 
 fn main(rt: HostRuntime) -> ExitCode {
     let alloc = rt.alloc();
-    let Ok(words) = words_of(alloc, &rt) else {
-        let _ = rt.eprintln("memory");
-        return ExitCode::from(NO_MEMORY);
-    };
     let mut files = StdFiles { rt: &rt, faults: 0 };
     let mut input = StdSource {
         inner: rt.reader(),
@@ -56,7 +69,10 @@ fn main(rt: HostRuntime) -> ExitCode {
         inner: io::writer(&rt),
         faults: 0,
     };
-    let answer = bglc(alloc, words.as_slice(), &mut files, &mut input, &mut out);
+    let answer = match words_of(alloc, &rt) {
+        Ok(words) => bglc(alloc, words.as_slice(), &mut files, &mut input, &mut out),
+        Err(OutOfMemory) => Answer::Memory,
+    };
     tell(&rt, &answer);
     ExitCode::from(status(&answer))
 }

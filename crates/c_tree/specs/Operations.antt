@@ -1,5 +1,5 @@
 -- The operations of the runtime: what each is called in a C text, what it asks of its arguments, and what it gives. The row of a primitive is made from the table of primitives.
-use Rattle.std.specs.Prelude.{ℕ, List, [], ◌∷◌, ◌++◌, codes, map, find, nat_eq, Bool, Option}
+use Rattle.std.specs.Prelude.{◌≡◌, ℕ, List, [], ◌∷◌, ◌++◌, codes, map, find, nat_eq, Bool, true, false, Option}
 use Rattle.std.specs.Cmp.Lexicographic.{pointwise}
 use Rattle.prim_table.specs.declared.types.Ty.{Ty}
 use Rattle.prim_table.specs.declared.types.Ty.TheVariants as types
@@ -11,6 +11,8 @@ use Rattle.c_tree.specs.declared.op.Wants.{Wants}
 use Rattle.c_tree.specs.declared.op.Wants.TheVariants.{AType, AnError, AText}
 use Rattle.c_tree.specs.declared.op.Op.{Op}
 use Rattle.c_tree.specs.declared.op.Op.TheVariants.{BoxLong, BoxBool, UnboxLong, Truth, Raise, Args, Status, Primitive as Does}
+use Rattle.c_tree.specs.declared.op.Row.{Row}
+use Rattle.c_tree.specs.declared.op.Row.TheVariants.{Own, OfPrimitive}
 use Rattle.c_tree.specs.Names.{mangled}
 
 pub record OpRow : Type 0 where
@@ -52,6 +54,16 @@ wants_of op = (op_row op).wants
 
 abbrev pub gives_of : Op → CTy
 gives_of op = (op_row op).gives
+
+-- whether its row stands here
+abbrev pub is_own : Op → Bool
+is_own (Does p) = false
+is_own _ = true
+
+-- the row of an operation, or the primitive that it does
+abbrev pub IsRowOf : Op → Row → Type 0
+IsRowOf op (Own r) = op_row op ≡ row r.name.now r.wants.now r.gives
+IsRowOf op (OfPrimitive p) = op ≡ Does p
 
 -- Names -------------------------------------------------------------------------------------
 

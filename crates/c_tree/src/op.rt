@@ -1,5 +1,5 @@
-ghost use Rattle.std.specs.Prelude.{◌≡◌, ◌++◌, length, OnOk, slice_get};
-ghost use Rattle.c_tree.specs.Operations.{c_type, wanted, op_text, wants_of, gives_of};
+ghost use Rattle.std.specs.Prelude.{◌≡◌, ◌++◌, length, IsTrue, OnOk, slice_get};
+ghost use Rattle.c_tree.specs.Operations.{c_type, wanted, op_text, wants_of, gives_of, is_op, is_own, IsRowOf};
 
 use crate::name_texts::push_mangled;
 use crate::tree::CTy;
@@ -28,6 +28,37 @@ pub enum Wants {
     AText,
 }
 
+/// The row of an operation that stands here.
+#[derive(Clone, Copy)]
+pub struct OwnRow {
+    name: &'static [u8],
+    wants: &'static [Wants],
+    gives: CTy,
+}
+
+/// Where the row of an operation stands: here, or in the table of primitives.
+#[derive(Clone, Copy)]
+pub enum Row {
+    Own(OwnRow),
+    OfPrimitive(Primitive),
+}
+
+const LONG: Wants = Wants::AType(CTy::Long);
+
+const INT: Wants = Wants::AType(CTy::Int);
+
+const OBJ: Wants = Wants::AType(CTy::Obj);
+
+macro_rules! own {
+    ($name:literal, [$($wants:expr),*], $gives:ident) => {
+        Row::Own(OwnRow {
+            name: $name,
+            wants: &[$($wants),*],
+            gives: CTy::$gives,
+        })
+    };
+}
+
 fn c_type(t: Ty) -> CTy
     ensures { result ≡ c_type t }
 {
@@ -46,19 +77,28 @@ fn wanted(t: Ty) -> Wants
 }
 
 impl Op {
+    fn row(self) -> Row
+        ensures { IsRowOf self result }
+    {
+        match self {
+            Op::BoxLong => own!(b"bgl_box_long", [LONG], Obj),
+            Op::BoxBool => own!(b"bgl_box_bool", [INT], Obj),
+            Op::UnboxLong => own!(b"bgl_unbox_long", [OBJ], Long),
+            Op::Truth => own!(b"bgl_truth", [OBJ], Int),
+            Op::Raise => own!(b"bgl_raise", [Wants::AnError, Wants::AText], Int),
+            Op::Args => own!(b"bgl_args", [], Obj),
+            Op::Status => own!(b"bgl_status", [OBJ], Int),
+            Op::Primitive(p) => Row::OfPrimitive(p),
+        }
+    }
+
     /// The type of what it gives.
     pub fn gives(self) -> CTy
         ensures { result ≡ gives_of self }
     {
-        match self {
-            Op::BoxLong => CTy::Obj,
-            Op::BoxBool => CTy::Obj,
-            Op::UnboxLong => CTy::Long,
-            Op::Truth => CTy::Int,
-            Op::Raise => CTy::Int,
-            Op::Args => CTy::Obj,
-            Op::Status => CTy::Int,
-            Op::Primitive(p) => c_type(prim_row(p.in_table()).result),
+        match self.row() {
+            Row::Own(row) => row.gives,
+            Row::OfPrimitive(p) => c_type(prim_row(p.in_table()).result),
         }
     }
 
@@ -66,15 +106,9 @@ impl Op {
     pub fn arity(self) -> usize
         ensures { result ≡ length (wants_of self) }
     {
-        match self {
-            Op::BoxLong => 1,
-            Op::BoxBool => 1,
-            Op::UnboxLong => 1,
-            Op::Truth => 1,
-            Op::Raise => 2,
-            Op::Args => 0,
-            Op::Status => 1,
-            Op::Primitive(p) => p.arity(),
+        match self.row() {
+            Row::Own(row) => row.wants.len(),
+            Row::OfPrimitive(p) => p.arity(),
         }
     }
 
@@ -82,16 +116,20 @@ impl Op {
     pub fn wants(self, place: usize) -> Option<Wants>
         ensures { result ≡ slice_get (wants_of self) place }
     {
-        match (self, place) {
-            (Op::BoxLong, 0) => Some(Wants::AType(CTy::Long)),
-            (Op::BoxBool, 0) => Some(Wants::AType(CTy::Int)),
-            (Op::UnboxLong, 0) => Some(Wants::AType(CTy::Obj)),
-            (Op::Truth, 0) => Some(Wants::AType(CTy::Obj)),
-            (Op::Raise, 0) => Some(Wants::AnError),
-            (Op::Raise, 1) => Some(Wants::AText),
-            (Op::Status, 0) => Some(Wants::AType(CTy::Obj)),
-            (Op::Primitive(p), _) => wants_of_primitive(p, place),
-            _ => None,
+        match self.row() {
+            Row::Own(row) => row.wants.get(place).copied(),
+            Row::OfPrimitive(p) => wants_of_primitive(p, place),
+        }
+    }
+
+    /// Whether a word is its name, of an operation whose row stands here.
+    pub(crate) fn has_own_name(self, word: &[u8]) -> bool
+        requires { IsTrue (is_own self) }
+        ensures { result ≡ is_op word.now self }
+    {
+        match self.row() {
+            Row::Own(row) => word == row.name,
+            Row::OfPrimitive(_) => unreachable!(),
         }
     }
 
@@ -99,15 +137,9 @@ impl Op {
     pub fn push_name(self, text: &mut Text) -> Result<(), OutOfMemory>
         ensures { OnOk result (text.new ≡ text.old ++ op_text self) }
     {
-        match self {
-            Op::BoxLong => text.extend(b"bgl_box_long"),
-            Op::BoxBool => text.extend(b"bgl_box_bool"),
-            Op::UnboxLong => text.extend(b"bgl_unbox_long"),
-            Op::Truth => text.extend(b"bgl_truth"),
-            Op::Raise => text.extend(b"bgl_raise"),
-            Op::Args => text.extend(b"bgl_args"),
-            Op::Status => text.extend(b"bgl_status"),
-            Op::Primitive(p) => push_primitive_name(p, text),
+        match self.row() {
+            Row::Own(row) => text.extend(row.name),
+            Row::OfPrimitive(p) => push_primitive_name(p, text),
         }
     }
 }

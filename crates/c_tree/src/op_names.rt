@@ -1,18 +1,11 @@
 // Operations by their names.
-ghost use Rattle.std.specs.Prelude.{◌≡◌, map, find, nat_eq};
-ghost use Rattle.std.specs.Cmp.Lexicographic.{pointwise};
+ghost use Rattle.std.specs.Prelude.{◌≡◌, map, find};
 ghost use Rattle.built_table.specs.Table.{primitives};
 ghost use Rattle.c_tree.specs.Operations.{is_op, op_named};
 
 use crate::op::Op;
 use crate::unmangling::unmangled;
 use built_table::prim_by_name;
-
-fn is_named(word: &[u8], name: &[u8]) -> bool
-    ensures { result ≡ pointwise nat_eq word.now name.now }
-{
-    word == name
-}
 
 fn primitive_by_name(word: &[u8]) -> Option<Op>
     ensures { result ≡ find (is_op word.now) (map Op.Primitive primitives) }
@@ -34,25 +27,25 @@ fn primitive_by_name(word: &[u8]) -> Option<Op>
 pub fn op_by_name(name: &[u8]) -> Option<Op>
     ensures { result ≡ op_named name.now }
 {
-    if is_named(name, b"bgl_box_long") {
+    if Op::BoxLong.has_own_name(name) {
         return Some(Op::BoxLong);
     }
-    if is_named(name, b"bgl_box_bool") {
+    if Op::BoxBool.has_own_name(name) {
         return Some(Op::BoxBool);
     }
-    if is_named(name, b"bgl_unbox_long") {
+    if Op::UnboxLong.has_own_name(name) {
         return Some(Op::UnboxLong);
     }
-    if is_named(name, b"bgl_truth") {
+    if Op::Truth.has_own_name(name) {
         return Some(Op::Truth);
     }
-    if is_named(name, b"bgl_raise") {
+    if Op::Raise.has_own_name(name) {
         return Some(Op::Raise);
     }
-    if is_named(name, b"bgl_args") {
+    if Op::Args.has_own_name(name) {
         return Some(Op::Args);
     }
-    if is_named(name, b"bgl_status") {
+    if Op::Status.has_own_name(name) {
         return Some(Op::Status);
     }
     primitive_by_name(name)

@@ -2,9 +2,11 @@
 use Rattle.std.proofs.Common.{◌≡◌, ℕ, zero, suc, List, [], ◌∷◌, ◌++◌, map, replicate, Bool, true, false, ◌⊎◌, inl, inr, Some, refl, sym, ap, ◌∙◌, subst, arith}
 use Rattle.std.specs.Prelude.{not, ◌&&◌, ◌||◌, IsTrue, cond, slice_get, Contains}
 use Rattle.std.specs.List.{list_any}
-use Rattle.std.proofs.lemmas.Bool.{and_from, and_parts}
+use Rattle.std.proofs.lemmas.Bool.{and_from, and_parts, not-true}
 use Rattle.std.proofs.lemmas.List.{map-append}
 use Rattle.std.proofs.lemmas.List.Folds.{list_any-append}
+use Rattle.std.specs.Cmp.Lexicographic.{bytes_decides, nat_list_eq_equiv}
+use Rattle.std.proofs.Math.Bool.{or-true}
 use Rattle.scheme_data.specs.Names.{are_distinct, is_same}
 use Rattle.scheme_data.specs.Symbols.{IsSymbol}
 use Rattle.core_tree.specs.declared.tree.GlobalRef.{GlobalRef}
@@ -12,7 +14,6 @@ use Rattle.core_tree.specs.declared.tree.GlobalRef.TheVariants.{Own, Used}
 use Rattle.core_tree.specs.declared.tree.Use.{Use}
 use Rattle.core_tree.specs.declared.tree.Use.TheVariants.{From, Need}
 use Rattle.core_tree.specs.Tree.{FunctionTree, ModuleTree, Callee, own_callee, row_callee, found_own, found_use, callee_of, used_callees}
-use Rattle.core_tree.specs.WellFormed as formed
 use Rattle.core_tree.specs.WellFormed.{IsFunction, AreFunctions, AreUses, module_of, row_of, same_use, each_once, IsWellFormed}
 use Rattle.c_tree.specs.declared.tree.CTy.{CTy}
 use Rattle.c_tree.specs.declared.tree.CTy.TheVariants.{Obj}
@@ -20,8 +21,8 @@ use Rattle.c_tree.specs.Names.{function_name, is_function_name}
 use Rattle.c_tree.proofs.CNames.{named_function, function_name_parts}
 use Rattle.c_meaning.specs.Checked.{Role, Function, role_of, may_call, signature_named, same_types, same_signature, callable, agrees}
 use Rattle.plan_rules.specs.Translation.{Name, c_name_of, callees}
-use Rattle.code_gen.proofs.Roles.{function_role, last_names, last_other, last_distinct}
-use Rattle.code_gen.proofs.Variables.{same_name, is_itself, other_name, own_type}
+use Rattle.plan_rules.proofs.NameKinds.{function_role, last_names, last_other, last_distinct, other_name}
+use Rattle.code_gen.proofs.Variables.{own_type}
 use Rattle.code_gen.proofs.Soundness.{signature}
 
 -- Members of a list -------------------------------------------------------------------------
@@ -131,16 +132,12 @@ named_at (d ∷ ds) c all h = elim h [
   | inr j ↦ named_at ds c all.1 j
 ]
 
-or_true : (b : Bool) → (b || true) ≡ true
-or_true true = refl
-or_true false = refl
-
 pub has_name : (cs : List Callee) (c : Callee) → Has c cs → list_any (is_same (c_name_of c)) (names_of cs) ≡ true
 has_name [] c h = absurd h
 has_name (d ∷ ds) c h = elim h [
   | inl e ↦ ap (λ k. is_same (c_name_of c) (c_name_of k) || list_any (is_same (c_name_of c)) (names_of ds)) (sym e)
-      ∙ ap (λ b. b || list_any (is_same (c_name_of c)) (names_of ds)) (is_itself (c_name_of c))
-  | inr j ↦ ap (λ b. is_same (c_name_of c) (c_name_of d) || b) (has_name ds c j) ∙ or_true (is_same (c_name_of c) (c_name_of d))
+      ∙ ap (λ b. b || list_any (is_same (c_name_of c)) (names_of ds)) (nat_list_eq_equiv.refl (c_name_of c))
+  | inr j ↦ ap (λ b. is_same (c_name_of c) (c_name_of d) || b) (has_name ds c j) ∙ or-true (is_same (c_name_of c) (c_name_of d))
 ]
 
 -- Names that differ -------------------------------------------------------------------------
@@ -149,8 +146,8 @@ same_test : (a b c d : Name) → (a ≡ b → c ≡ d) → (c ≡ d → a ≡ b)
 same_test a b c d to from = go (is_same a b) refl
   where
     go : (x : Bool) → is_same a b ≡ x → is_same a b ≡ is_same c d
-    go true e = e ∙ sym (ap (λ x. is_same c x) (sym (to (same_name a b e))) ∙ is_itself c)
-    go false e = e ∙ sym (other_name c d (λ q. let bad : false ≡ true = sym e ∙ ap (λ x. is_same a x) (sym (from q)) ∙ is_itself a in absurd (cc)))
+    go true e = e ∙ sym (ap (λ x. is_same c x) (sym (to ((bytes_decides a b).0 e))) ∙ nat_list_eq_equiv.refl c)
+    go false e = e ∙ sym (other_name c d (λ q. let bad : false ≡ true = sym e ∙ ap (λ x. is_same a x) (sym (from q)) ∙ nat_list_eq_equiv.refl a in absurd (cc)))
 
 -- names in one module
 own_test : (m a b : Name) → is_same (function_name m a) (function_name m b) ≡ is_same a b
@@ -160,14 +157,14 @@ own_test m a b = same_test (function_name m a) (function_name m b) a b (λ e. (f
 other_module : (m k a b : Name) → is_same k m ≡ false → is_same (function_name m a) (function_name k b) ≡ false
 other_module m k a b e =
     other_name (function_name m a) (function_name k b)
-    (λ q. let bad : false ≡ true = sym e ∙ ap (is_same k) (function_name_parts m a k b q).0 ∙ is_itself k in absurd (cc))
+    (λ q. let bad : false ≡ true = sym e ∙ ap (is_same k) (function_name_parts m a k b q).0 ∙ nat_list_eq_equiv.refl k in absurd (cc))
 
 other_pair : (m k a b : Name) → (is_same m k && is_same a b) ≡ false → is_same (function_name m a) (function_name k b) ≡ false
 other_pair m k a b e =
     other_name (function_name m a) (function_name k b)
     (λ q.
     let s = function_name_parts m a k b q in
-    let bad : true ≡ false = sym (and_from (is_same m k) (is_same a b) (ap (is_same m) (sym s.0) ∙ is_itself m) (ap (is_same a) (sym s.1) ∙ is_itself a)) ∙ e in absurd (cc))
+    let bad : true ≡ false = sym (and_from (is_same m k) (is_same a b) (ap (is_same m) (sym s.0) ∙ nat_list_eq_equiv.refl m) (ap (is_same a) (sym s.1) ∙ nat_list_eq_equiv.refl a)) ∙ e in absurd (cc))
 
 none_of : (a b : Bool) → (a || b) ≡ false → (a ≡ false) × (b ≡ false)
 none_of true b e = absurd (cc)
@@ -192,16 +189,12 @@ none_used u (From k r ∷ us) e =
     any_from (is_same name (function_name k r.name)) (list_any (is_same name) (names_of (used_callees us))) (other_pair (module_of u) k (row_of u).name r.name parts.0) (none_used u us parts.1)
 none_used u (Need k r ∷ us) e = none_used u us (none_of (same_use u (Need k r)) (list_any (same_use u) us) e).1
 
-not_true : (b : Bool) → not b ≡ true → b ≡ false
-not_true true e = absurd (cc)
-not_true false e = refl
-
 used_distinct : (us : List Use) → each_once us ≡ true → are_distinct (names_of (used_callees us)) ≡ true
 used_distinct [] e = refl
 used_distinct (From k r ∷ us) e =
     let u = From k r in
     let parts = and_parts (not (list_any (same_use u) us)) (each_once us) e in
-    let alone = none_used u us (not_true (list_any (same_use u) us) parts.0) in
+    let alone = none_used u us (not-true (list_any (same_use u) us) parts.0) in
     and_from (not (list_any (is_same (function_name k r.name)) (names_of (used_callees us)))) (are_distinct (names_of (used_callees us))) (ap not alone) (used_distinct us parts.1)
 used_distinct (Need k r ∷ us) e = used_distinct us (and_parts (not (list_any (same_use (Need k r)) us)) (each_once us) e).1
 
@@ -263,7 +256,7 @@ module _ (cs : List Callee) (distinct : are_distinct (names_of cs) ≡ true) whe
       → (not (is_same (c_name_of d) (c_name_of c)) || same_signature (signature d) (signature c)) ≡ true
   agrees_one c d a b false e = ap (λ x. not x || same_signature (signature d) (signature c)) e
   agrees_one c d a b true e =
-      let same : d ≡ c = same_callee cs d c distinct b a (same_name (c_name_of d) (c_name_of c) e) in
+      let same : d ≡ c = same_callee cs d c distinct b a ((bytes_decides (c_name_of d) (c_name_of c)).0 e) in
       ap (λ x. not x || same_signature (signature d) (signature c)) e ∙ ap (λ k. same_signature (signature k) (signature c)) same
       ∙ own_types (replicate c.params Obj)
 
@@ -278,12 +271,12 @@ module _ (cs : List Callee) (distinct : are_distinct (names_of cs) ≡ true) whe
       → (c ≡ d) ⊎ Has c ds → (Has c ds → signature_named (map signature ds) (c_name_of c) ≡ Some (signature c))
       → signature_named (map signature (d ∷ ds)) (c_name_of c) ≡ Some (signature c)
   found_at c d ds a b true e among others =
-      let same : d ≡ c = same_callee cs d c distinct b a (same_name (c_name_of d) (c_name_of c) e) in
+      let same : d ≡ c = same_callee cs d c distinct b a ((bytes_decides (c_name_of d) (c_name_of c)).0 e) in
       ap (λ x. cond x (Some (signature d)) (signature_named (map signature ds) (c_name_of c))) e ∙ ap (λ k. Some (signature k)) same
   found_at c d ds a b false e among others =
       ap (λ x. cond x (Some (signature d)) (signature_named (map signature ds) (c_name_of c))) e
       ∙ elim among [
-        | inl q ↦ let bad : false ≡ true = sym e ∙ ap (λ k. is_same (c_name_of k) (c_name_of c)) (sym q) ∙ is_itself (c_name_of c) in absurd (cc)
+        | inl q ↦ let bad : false ≡ true = sym e ∙ ap (λ k. is_same (c_name_of k) (c_name_of c)) (sym q) ∙ nat_list_eq_equiv.refl (c_name_of c) in absurd (cc)
         | inr j ↦ others j
       ]
 

@@ -21,7 +21,7 @@ use Rattle.plan_rules.specs.Representation.{PlainAt, slot_of, rep_of, c_type_of,
 use Rattle.plan_rules.specs.Translation.{Name, IsLocal, into, Miscounted, objects, is_counted, c_name_of}
 use Rattle.code_gen.specs.declared.emitter.Emitter.{Emitter}
 use Rattle.code_gen.specs.declared.emitter.Held.{Held}
-use Rattle.code_gen.specs.declared.emitter.Place.TheVariants.{Into}
+use Rattle.code_gen.specs.declared.emitter.Target.TheVariants.{Into}
 use Rattle.code_gen.specs.Settings.{Setting, scope_in, TrIn, TrArgumentsIn}
 use Rattle.code_gen.specs.Emission.{held_names, AreBelow, Puts, Stores, LeavesUnset, Gives, IsValue, IsTested, IsDelivered, AreArguments, AreReady, IsReady, IsPrimitiveCall, IsCounted, IsMiscounted, IsFunctionCall}
 use Rattle.code_gen.proofs.Counts.{below_more, fresh_at}

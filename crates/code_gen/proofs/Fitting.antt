@@ -1,14 +1,14 @@
 -- Arguments that were evaluated are made to fit.
-use Rattle.std.proofs.Common.{◌≡◌, ℕ, zero, suc, ◌+◌, ◌<◌, ◌≤◌, List, [], ◌∷◌, ◌++◌, length, map, drop, get_or, refl, sym, ap, ◌∙◌, subst, arith, append_assoc, add-one}
+use Rattle.std.proofs.Common.{rules, ◌≡◌, ℕ, zero, suc, ◌+◌, ◌<◌, ◌≤◌, List, [], ◌∷◌, ◌++◌, length, map, drop, get_or, refl, sym, ap, ◌∙◌, subst, arith, append_assoc, add-one}
 use Rattle.std.proofs.Math.Seq.{drop-cons}
 use Rattle.std.proofs.lemmas.Bool.{and_parts}
 use Rattle.std.proofs.lemmas.List.{map-append, append-nil, drop_all}
-use Rattle.std.specs.Prelude.{true, pos}
+use Rattle.std.specs.Prelude.{true, pos, Some, replicate, slice_get}
+use Rattle.std.proofs.lemmas.Option.{get_or_from_slice_get}
 use Rattle.std.specs.List.{list_all}
 use Rattle.built_table.specs.declared.primitives.Ty.{Ty}
 use Rattle.built_table.specs.declared.primitives.Ty.TheVariants as ty
 use Rattle.built_table.specs.declared.primitives.Primitive.{Primitive as Builtin}
-use Rattle.built_table.specs.declared.primitives.Primitive.TheVariants as builtin
 use Rattle.built_table.specs.Table.{params_of, is_parameter_type}
 use Rattle.core_tree.specs.declared.tree.Node.{Node}
 use Rattle.c_tree.specs.declared.op.Op.{Op}
@@ -87,6 +87,10 @@ fit_refused s u t h made refuses refused =
           refused.emits (λ vars code rest p live b. subst (λ st. Fits vars t st live (local_name h.local) code x rest) refuses (p live b));
     }
 
+-- the type at a place, as the list has it
+pub type_at : (types : List Ty) (i : ℕ) (t : Ty) → slice_get types i ≡ Some t → t ≡ get_or types i t
+type_at types i t e = sym (get_or_from_slice_get types i t t e)
+
 -- types of parameters, one by one
 pub parameter_at : (types : List Ty) (i : ℕ) (d : Ty) → i < length types → list_all is_parameter_type types ≡ true → is_parameter_type (get_or types i d) ≡ true
 parameter_at [] i d within all = absurd (omega arith)
@@ -94,14 +98,11 @@ parameter_at (t ∷ ts) zero d within all = (and_parts (is_parameter_type t) (li
 parameter_at (t ∷ ts) (suc i) d within all = parameter_at ts i d (omega arith) (and_parts (is_parameter_type t) (list_all is_parameter_type ts) all).1
 
 pub primitive_parameters : (p : Builtin) → AreParameters (params_of p)
-primitive_parameters builtin.Add = refl
-primitive_parameters builtin.Less = refl
-primitive_parameters builtin.Display = refl
-primitive_parameters builtin.Newline = refl
+primitive_parameters p = search rules
 
-pub object_parameters : (ns : List Node) → AreParameters (map (λ _. ty.Obj) ns)
-object_parameters [] = refl
-object_parameters (n ∷ ns) = object_parameters ns
+pub word_parameters : (n : ℕ) → AreParameters (replicate n ty.Obj)
+word_parameters zero = refl
+word_parameters (suc n) = word_parameters n
 
 -- All of them -------------------------------------------------------------------------------
 
@@ -136,7 +137,7 @@ fit_next vars types held i t h live middle rest last x others e f fits all =
     let here : A (t ∷ drop (suc i) types) (h ∷ drop (suc i) held) = record { first = x; rest = others; middle = rest; are = refl; fits = fits; all = all } in
     subst (λ ts. A ts (drop i held)) (sym e) (subst (λ hs. A (t ∷ drop (suc i) types) hs) (sym f) here)
 
-pub fitting_one : (s e g : Emitter) (types : List Ty) (held : List Held) (made : List ℕ) (i x : ℕ) (d : Ty) (k : Held)
+fitting_one : (s e g : Emitter) (types : List Ty) (held : List Held) (made : List ℕ) (i x : ℕ) (d : Ty) (k : Held)
     → length types ≡ length held → i < length held → Fitting s e types held made i → IsFitted e g (get_or types i d) (get_or held i k) x
     → (after : List ℕ) → after ≡ made ++ x ∷ [] → Fitting s g types held after (i + 1)
 fitting_one s e g types held made i x d k as_many within so one after after_is =
@@ -162,6 +163,13 @@ fitting_one s e g types held made i x d k as_many within so one after after_is =
           subst (λ m. AllFit vars types (reps held) (held_names held) live code m last) made_is
           (p live b (local_name x ∷ others) last (fit_next vars types held i t h live_now middle rest last (local_name x) others first_types first_held (q live_now below_now) all)));
     })
+
+-- the same of the type that stands there
+pub fitting_typed : (s e g : Emitter) (types : List Ty) (held : List Held) (made : List ℕ) (i x : ℕ) (t : Ty) (k : Held)
+    → length types ≡ length held → i < length held → Fitting s e types held made i → slice_get types i ≡ Some t → IsFitted e g t (get_or held i k) x
+    → (after : List ℕ) → after ≡ made ++ x ∷ [] → Fitting s g types held after (i + 1)
+fitting_typed s e g types held made i x t k as_many within so at one after after_is =
+    fitting_one s e g types held made i x t k as_many within so (subst (λ u. IsFitted e g u (get_or held i k) x) (type_at types i t at) one) after after_is
 
 pub fitting_all : (s e : Emitter) (types : List Ty) (held : List Held) (made : List ℕ) (i : ℕ) → length types ≡ length held → length held ≤ i
     → Fitting s e types held made i → AreFitted s e types held made

@@ -22,7 +22,7 @@ use Rattle.code_gen.specs.Settings.{Setting, IsBodyIn, TrIn}
 use Rattle.code_gen.specs.Emission.{AreBelow, AreCounted, AreLocals, setting_of, word_names, variables_with, IsFunctionOf}
 use Rattle.code_gen.proofs.Counts.{below_none, below_one}
 use Rattle.code_gen.proofs.Variables.{counted_distinct, counted_locals, counted_named, local_named}
-use Rattle.code_gen.proofs.Roles.{function_role}
+use Rattle.plan_rules.proofs.NameKinds.{function_role}
 use Rattle.code_gen.proofs.Soundness.{signature, Grounds, Fine, fine_done, fine_last}
 use Rattle.c_tree.proofs.CNames.{named_function}
 use Rattle.code_gen.proofs.Declared.{Within, called, callees_distinct, callees_named, named_at, signed}

@@ -7,8 +7,6 @@ pub mod Functions
 pub mod OwnFunctions
 pub mod Places
 pub mod Related
-pub mod Roles
-pub mod Samples
 pub mod Shapes
 pub mod Soundness
 pub mod Steps

@@ -18,15 +18,15 @@ use Rattle.c_tree.specs.Code.{Code, done, call}
 use Rattle.plan_rules.specs.declared.rep.Rep.{Rep}
 use Rattle.plan_rules.specs.declared.rep.Rep.TheVariants.{Obj, Bool as Truth_rep}
 use Rattle.plan_rules.specs.Representation.{PlainAt, slot_of, rep_in, rep_of, has_of, constant_expr, operation, call_of}
-use Rattle.plan_rules.specs.Translation.{Name, Place, deliver, Applied, Branches, Miscounted, haves, objects, is_counted, c_name_of, TrConstant, TrVariable, TrVariableUnused, TrCounted, TrCall, Tr, TrUnused}
+use Rattle.plan_rules.specs.Translation.{Name, Target, deliver, Applied, Branches, Miscounted, haves, objects, is_counted, c_name_of, TrConstant, TrVariable, TrVariableUnused, TrCounted, TrCall, Tr, TrUnused}
 use Rattle.code_gen.specs.Settings.{Setting, scope_in, TrIn, TrUnusedIn, TrArgumentsIn}
 use Rattle.code_gen.specs.Emission.{AreReady, Delivered}
 
 module _ (w : Setting) where
-  pub tr_constant : (vars : List CVar) (k : Const) (h : Rep) (e : CExpr) (live : List Name) (place : Place) (code rest : Code) → constant_expr k h ≡ Some e → code ≡ deliver place e rest
-      → TrIn w vars (Constant k) h live place code rest
+  pub tr_constant : (vars : List CVar) (k : Const) (h : Rep) (e : CExpr) (live : List Name) (target : Target) (code rest : Code) → constant_expr k h ≡ Some e → code ≡ deliver target e rest
+      → TrIn w vars (Constant k) h live target code rest
   unfolding Tr
-  tr_constant vars k h e live place code rest found is = subst (λ o. TrConstant w.in_module (scope_in w) vars o place code rest) (sym found) is
+  tr_constant vars k h e live target code rest found is = subst (λ o. TrConstant w.in_module (scope_in w) vars o target code rest) (sym found) is
 
   pub unused_constant_is : (vars : List CVar) (k : Const) (live : List Name) (code rest : Code) → code ≡ rest → TrUnusedIn w vars (Constant k) live code rest
   unfolding TrUnused
@@ -34,11 +34,11 @@ module _ (w : Setting) where
 
   -- Variables -------------------------------------------------------------------------------
 
-  pub tr_variable : (vars : List CVar) (x : VarId) (y : Name) (live : List Name) (place : Place) (code rest : Code) → slot_of x (scope_in w) ≡ Some (PlainAt Obj y)
-      → code ≡ deliver place (expr.Atom (atom.Name y)) rest → TrIn w vars (Variable x) Obj live place code rest
+  pub tr_variable : (vars : List CVar) (x : VarId) (y : Name) (live : List Name) (target : Target) (code rest : Code) → slot_of x (scope_in w) ≡ Some (PlainAt Obj y)
+      → code ≡ deliver target (expr.Atom (atom.Name y)) rest → TrIn w vars (Variable x) Obj live target code rest
   unfolding Tr
-  tr_variable vars x y live place code rest found e =
-      subst (λ o. TrVariable w.in_module (scope_in w) vars o Obj place code rest) (sym found) (refl, e)
+  tr_variable vars x y live target code rest found e =
+      subst (λ o. TrVariable w.in_module (scope_in w) vars o Obj target code rest) (sym found) (refl, e)
 
   pub unused_variable_is : (vars : List CVar) (x : VarId) (y : Name) (live : List Name) (code rest : Code) → slot_of x (scope_in w) ≡ Some (PlainAt Obj y)
       → code ≡ rest → TrUnusedIn w vars (Variable x) live code rest
@@ -51,14 +51,14 @@ module _ (w : Setting) where
 
   -- Branches --------------------------------------------------------------------------------
 
-  pub tr_if : (vars : List CVar) (a b c : Tree) (live : List Name) (place : Place) (code rest : Code)
-      → Branches vars (has_of (scope_in w) a Truth_rep) (λ place code rest. TrIn w vars a (has_of (scope_in w) a Truth_rep) live place code rest) live
-      (λ code. Delivered w b live vars place code done) (λ code. Delivered w c live vars place code done) code rest → TrIn w vars (If a b c) Obj live place code rest
+  pub tr_if : (vars : List CVar) (a b c : Tree) (live : List Name) (target : Target) (code rest : Code)
+      → Branches vars (has_of (scope_in w) a Truth_rep) (λ target code rest. TrIn w vars a (has_of (scope_in w) a Truth_rep) live target code rest) live
+      (λ code. Delivered w b live vars target code done) (λ code. Delivered w c live vars target code done) code rest → TrIn w vars (If a b c) Obj live target code rest
   unfolding Tr
-  tr_if vars a b c live place code rest chosen = (refl, chosen)
+  tr_if vars a b c live target code rest chosen = (refl, chosen)
 
   pub unused_if_is : (vars : List CVar) (a b c : Tree) (live : List Name) (code rest : Code)
-      → Branches vars (has_of (scope_in w) a Truth_rep) (λ place code rest. TrIn w vars a (has_of (scope_in w) a Truth_rep) live place code rest) live
+      → Branches vars (has_of (scope_in w) a Truth_rep) (λ target code rest. TrIn w vars a (has_of (scope_in w) a Truth_rep) live target code rest) live
       (λ code. TrUnusedIn w vars b live code done) (λ code. TrUnusedIn w vars c live code done) code rest → TrUnusedIn w vars (If a b c) live code rest
   unfolding TrUnused
   unused_if_is vars a b c live code rest chosen = chosen
@@ -78,11 +78,11 @@ module _ (w : Setting) where
     is = e ∙ ap finish r.args_are;
   }
 
-  pub tr_primitive : (vars : List CVar) (p : Builtin) (ns : Trees) (h : Rep) (live : List Name) (args : List CArg) (place : Place) (code middle rest : Code) → h ≡ rep_of (result_of p)
-      → AreReady w (params_of p) ns live args vars code middle → middle ≡ deliver place (expr.Call (operation (Does p) args)) rest → TrIn w vars (Primitive p ns) h live place code rest
+  pub tr_primitive : (vars : List CVar) (p : Builtin) (ns : Trees) (h : Rep) (live : List Name) (args : List CArg) (target : Target) (code middle rest : Code) → h ≡ rep_of (result_of p)
+      → AreReady w (params_of p) ns live args vars code middle → middle ≡ deliver target (expr.Call (operation (Does p) args)) rest → TrIn w vars (Primitive p ns) h live target code rest
   unfolding Tr
-  tr_primitive vars p ns h live args place code middle rest h_is ready e =
-      (h_is, applied_to vars (params_of p) ns live args (λ args. deliver place (expr.Call (operation (Does p) args)) rest) code middle ready e)
+  tr_primitive vars p ns h live args target code middle rest h_is ready e =
+      (h_is, applied_to vars (params_of p) ns live args (λ args. deliver target (expr.Call (operation (Does p) args)) rest) code middle ready e)
 
   pub unused_primitive_is : (vars : List CVar) (p : Builtin) (ns : Trees) (live : List Name) (args : List CArg) (code middle rest : Code)
       → AreReady w (params_of p) ns live args vars code middle → middle ≡ call (operation (Does p) args) rest → TrUnusedIn w vars (Primitive p ns) live code rest
@@ -107,14 +107,14 @@ module _ (w : Setting) where
         subst (λ o. TrCall w.in_module (scope_in w) vars o Evaluated ns live finish code rest) (sym found)
         (subst (λ b. TrCounted w.in_module (scope_in w) vars b f Evaluated ns live finish code rest) (sym wrong) raised)
 
-    pub tr_counted : (args : List CArg) (place : Place) (code middle rest : Code) → is_counted f ns ≡ true → AreReady w (objects ns) ns live args vars code middle
-        → middle ≡ deliver place (expr.Call (call_of (c_name_of f) args)) rest → TrIn w vars (Call g ns) Obj live place code rest
+    pub tr_counted : (args : List CArg) (target : Target) (code middle rest : Code) → is_counted f ns ≡ true → AreReady w (objects ns) ns live args vars code middle
+        → middle ≡ deliver target (expr.Call (call_of (c_name_of f) args)) rest → TrIn w vars (Call g ns) Obj live target code rest
     unfolding Tr
-    tr_counted args place code middle rest right ready e = (refl, counted args (λ c. deliver place (expr.Call c) rest) code middle rest right ready e)
+    tr_counted args target code middle rest right ready e = (refl, counted args (λ c. deliver target (expr.Call c) rest) code middle rest right ready e)
 
-    pub tr_miscounted : (place : Place) (code rest : Code) → is_counted f ns ≡ false → Miscounted vars Evaluated f.params code rest → TrIn w vars (Call g ns) Obj live place code rest
+    pub tr_miscounted : (target : Target) (code rest : Code) → is_counted f ns ≡ false → Miscounted vars Evaluated f.params code rest → TrIn w vars (Call g ns) Obj live target code rest
     unfolding Tr
-    tr_miscounted place code rest wrong raised = (refl, miscounted (λ c. deliver place (expr.Call c) rest) code rest wrong raised)
+    tr_miscounted target code rest wrong raised = (refl, miscounted (λ c. deliver target (expr.Call c) rest) code rest wrong raised)
 
     pub unused_counted_is : (args : List CArg) (code middle rest : Code) → is_counted f ns ≡ true → AreReady w (objects ns) ns live args vars code middle
         → middle ≡ call (call_of (c_name_of f) args) rest → TrUnusedIn w vars (Call g ns) live code rest

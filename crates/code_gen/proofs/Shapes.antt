@@ -1,6 +1,6 @@
 -- The trees of nodes: what a node that may stand somewhere has for parts, and the work that is left.
 use Rattle.std.proofs.Common.{◌≡◌, ℕ, zero, suc, ◌+◌, ◌<◌, ◌≤◌, List, [], ◌∷◌, length, map, get_or, refl, sym, ap, ◌∙◌, subst, arith, rules}
-use Rattle.std.specs.Prelude.{IsTrue, Bool, true, false, nat_eq}
+use Rattle.std.specs.Prelude.{replicate, IsTrue, Bool, true, false, nat_eq}
 use Rattle.std.proofs.lemmas.Bool.{eq-eqb, eqb-true}
 use Rattle.std.specs.List.{list_any}
 use Rattle.built_table.specs.declared.primitives.Ty.{Ty}
@@ -94,7 +94,7 @@ pub objects_as_many : (ns : Trees) → AsMany (objects ns) ns
 objects_as_many none = tt
 objects_as_many (more n ns) = objects_as_many ns
 
-pub objects_are : (ns : List Node) → map (λ _. ty.Obj) ns ≡ objects (parts ns)
+pub objects_are : (ns : List Node) → replicate (length ns) ty.Obj ≡ objects (parts ns)
 objects_are [] = refl
 objects_are (n ∷ ns) = ap (λ ts. ty.Obj ∷ ts) (objects_are ns)
 
@@ -102,15 +102,12 @@ pub count_is : (ns : List Node) → count (parts ns) ≡ length ns
 count_is [] = refl
 count_is (n ∷ ns) = ap suc (count_is ns)
 
-nat_same : (a b : ℕ) → a ≡ b → nat_eq a b ≡ true
-nat_same a b e = eq-eqb a b e
-
 nat_other : (a b : ℕ) (t : Bool) → nat_eq a b ≡ t → (a ≡ b → ⊥) → nat_eq a b ≡ false
 nat_other a b true e ne = absurd (ne (eqb-true a b e))
 nat_other a b false e ne = e
 
 pub right_count : (f : Callee) (ns : List Node) → length ns ≡ f.params → is_counted f (parts ns) ≡ true
-right_count f ns e = nat_same (count (parts ns)) f.params (count_is ns ∙ e)
+right_count f ns e = eq-eqb (count (parts ns)) f.params (count_is ns ∙ e)
 
 pub wrong_count : (f : Callee) (ns : List Node) → (length ns ≡ f.params → ⊥) → is_counted f (parts ns) ≡ false
 wrong_count f ns ne = nat_other (count (parts ns)) f.params (is_counted f (parts ns)) refl (λ e. ne (sym (count_is ns) ∙ e))

@@ -1,11 +1,11 @@
 -- The statements of a translated body are named, and their types fit.
-use Rattle.std.proofs.Common.{◌≡◌, ℕ, zero, suc, List, [], ◌∷◌, ◌++◌, map, replicate, Bool, true, false, Option, Some, None, refl, sym, ap, ◌∙◌, subst, arith}
+use Rattle.std.proofs.Common.{rules, ◌≡◌, ℕ, zero, suc, List, [], ◌∷◌, ◌++◌, map, replicate, Bool, true, false, Option, Some, None, refl, sym, ap, ◌∙◌, subst, arith}
 use Rattle.std.specs.Prelude.{IsTrue, pos, ◌&&◌}
 use Rattle.std.proofs.lemmas.Bool.{and_from, eqb-true}
+use Rattle.std.specs.List.{AllZip}
 use Rattle.built_table.specs.declared.primitives.Ty.{Ty}
 use Rattle.built_table.specs.declared.primitives.Ty.TheVariants as ty
 use Rattle.built_table.specs.declared.primitives.Primitive.{Primitive as Builtin}
-use Rattle.built_table.specs.declared.primitives.Primitive.TheVariants as builtin
 use Rattle.built_table.specs.Table.{params_of, result_of}
 use Rattle.core_tree.specs.declared.tree.Const.{Const}
 use Rattle.core_tree.specs.declared.tree.Const.TheVariants as const
@@ -26,11 +26,15 @@ use Rattle.c_tree.specs.declared.tree.CVar.{CVar}
 use Rattle.c_tree.specs.Code.{Code, done, assign, call, return, test, loop}
 use Rattle.c_tree.specs.Names.{is_local_name, is_function_name}
 use Rattle.c_tree.specs.Spelling.{NamedArguments, NamedCall, NamedExpr, NamedCode}
-use Rattle.c_meaning.specs.Checked.{Signature, signature_named, same_type, is_typed, variable_named, Wants, AType, wants_of, gives_of, arguments_fit, call_fits_signature, call_type, is_the_type, has_type, expr_fits, assigned_fits, code_fits, returns_last}
+use Rattle.c_tree.specs.declared.op.Wants.{Wants}
+use Rattle.c_tree.specs.declared.op.Wants.TheVariants.{AType}
+use Rattle.c_tree.specs.Operations.{wants_of, gives_of}
+use Rattle.c_meaning.specs.Checked.{Signature, signature_named, same_type, is_typed, variable_named, arguments_fit, call_fits_signature, call_type, is_the_type, has_type, expr_fits, assigned_fits, code_fits, returns_last}
 use Rattle.plan_rules.specs.declared.rep.Rep.{Rep}
 use Rattle.plan_rules.specs.declared.rep.Rep.TheVariants.{Obj, Long, Bool as Truth_rep}
 use Rattle.plan_rules.specs.Representation.{Slot, PlainAt, slot_of, rep_of, c_type_of, has_of, constant_expr, condition, operation, raise_count, raise_type, call_of, local, step}
-use Rattle.plan_rules.specs.Translation.{Name, IsLocal, Place, into, back, deliver, Statements, Coerced, Fits, AllFit, Applied, Branches, haves, objects, is_counted, c_name_of, TrConstant, TrVariable, TrVariableUnused, TrCounted, TrCall, Tr, TrUnused, TrAllUnused, TrLast, TrArguments}
+use Rattle.plan_rules.specs.Translation.{Name, IsLocal, Target, into, back, deliver, Statements, Coerced, Fits, AllFit, Applied, Branches, haves, objects, is_counted, c_name_of, TrConstant, TrVariable, TrVariableUnused, TrCounted, TrCall, Tr, TrUnused, TrAllUnused, TrLast, TrArguments}
+use Rattle.code_gen.proofs.Variables.{own_type}
 use Rattle.code_gen.specs.Settings.{Setting, scope_in, IsNode, AreNodes, TrIn, TrUnusedIn, TrAllUnusedIn, TrLastIn, TrArgumentsIn}
 
 same_c_type : (t u : CTy) → same_type t u ≡ true → t ≡ u
@@ -131,13 +135,7 @@ module _ (w : Setting) (sigs : List Signature) (vars : List CVar) (grounds : Gro
   fine_raise want = record { typed = refl; named = (tt, (refl, (tt, tt))) }
 
   fine_call : (c : CCall) (t : CTy) → FineCall c t → FineExpr (expr.Call c) t
-  fine_call c t h = record { fits = ap (is_the_type t) h.typed ∙ own t; named = h.named }
-    where
-      own : (t : CTy) → same_type t t ≡ true
-      own c_ty.Obj = refl
-      own c_ty.Long = refl
-      own c_ty.Char = refl
-      own c_ty.Int = refl
+  fine_call c t h = record { fits = ap (is_the_type t) h.typed ∙ own_type t; named = h.named }
 
   fine_refusal : (t : Ty) → FineCall (raise_type t) c_ty.Int
   fine_refusal t = record { typed = refl; named = (tt, (refl, (tt, tt))) }
@@ -203,28 +201,22 @@ module _ (w : Setting) (sigs : List Signature) (vars : List CVar) (grounds : Gro
         ends = k.ends;
       }
 
-  -- the place takes a value in this representation
-  abbrev PlaceFits : Place → Rep → Type 0
-  PlaceFits (into x) h = IsLocal vars x (c_type_of h)
-  PlaceFits back h = h ≡ Obj
+  -- the target takes a value in this representation
+  abbrev TargetFits : Target → Rep → Type 0
+  TargetFits (into x) h = IsLocal vars x (c_type_of h)
+  TargetFits back h = h ≡ Obj
 
-  fine_deliver : {last : Bool} (place : Place) (h : Rep) (e : CExpr) (rest : Code) → PlaceFits place h → FineExpr e (c_type_of h) → Fine last rest → Fine last (deliver place e rest)
+  fine_deliver : {last : Bool} (target : Target) (h : Rep) (e : CExpr) (rest : Code) → TargetFits target h → FineExpr e (c_type_of h) → Fine last rest → Fine last (deliver target e rest)
   fine_deliver (into x) h e rest l f g = fine_assign x (c_type_of h) e rest l f g
   fine_deliver back h e rest l f g = fine_return e rest (subst (λ k. FineExpr e (c_type_of k)) l f) g
 
   -- Arguments -------------------------------------------------------------------------------
 
   abbrev AreTyped : List Name → List Rep → Type 0
-  AreTyped [] [] = Unit {0}
-  AreTyped (y ∷ ys) (h ∷ hs) = IsLocal vars y (c_type_of h) × AreTyped ys hs
-  AreTyped [] (h ∷ hs) = ⊥
-  AreTyped (y ∷ ys) [] = ⊥
+  AreTyped ys hs = AllZip (λ y h. IsLocal vars y (c_type_of h)) ys hs
 
   abbrev AreMade : List Name → List Ty → Type 0
-  AreMade [] [] = Unit {0}
-  AreMade (y ∷ ys) (t ∷ ts) = IsLocal vars y (c_type_of (rep_of t)) × AreMade ys ts
-  AreMade [] (t ∷ ts) = ⊥
-  AreMade (y ∷ ys) [] = ⊥
+  AreMade ys ts = AllZip (λ y t. IsLocal vars y (c_type_of (rep_of t))) ys ts
 
   made_one : (t : Ty) (h : Rep) (live : List Name) (y : Name) (code : Code) (made : Name) (rest : Code) → Fits vars t (step t h) live y code made rest → IsLocal vars y (c_type_of h)
       → IsLocal vars made (c_type_of (rep_of t))
@@ -303,16 +295,10 @@ module _ (w : Setting) (sigs : List Signature) (vars : List CVar) (grounds : Gro
   made_named (t ∷ ts) [] h = absurd h
 
   wants-params : (p : Builtin) → wants_of (Does p) ≡ map wanted (params_of p)
-  wants-params builtin.Add = refl
-  wants-params builtin.Less = refl
-  wants-params builtin.Display = refl
-  wants-params builtin.Newline = refl
+  wants-params p = search rules
 
   gives-result : (p : Builtin) → gives_of (Does p) ≡ c_type_of (rep_of (result_of p))
-  gives-result builtin.Add = refl
-  gives-result builtin.Less = refl
-  gives-result builtin.Display = refl
-  gives-result builtin.Newline = refl
+  gives-result p = search rules
 
   fine_made : (ts : List Ty) (made : List Name) → AreMade made ts → FineArgs (map wanted ts) (map local made)
   fine_made ts made h = record { fits = made_fit ts made h; named = made_named ts made h }
@@ -358,17 +344,17 @@ module _ (w : Setting) (sigs : List Signature) (vars : List CVar) (grounds : Gro
 
   -- Nodes -----------------------------------------------------------------------------------
 
-  fine_literal : {last : Bool} (o : Option CExpr) (k : Const) (h : Rep) (place : Place) (code rest : Code) → constant_expr k h ≡ o → IsNode w (Constant k)
-      → TrConstant w.in_module (scope_in w) vars o place code rest → PlaceFits place h → Fine last rest → Fine last code
-  fine_literal None k h place code rest is x t l g = absurd t
-  fine_literal (Some e) k h place code rest is x t l g = subst (Fine _) (sym t) (fine_deliver place h e rest l (fine_constant k h e x is) g)
+  fine_literal : {last : Bool} (o : Option CExpr) (k : Const) (h : Rep) (target : Target) (code rest : Code) → constant_expr k h ≡ o → IsNode w (Constant k)
+      → TrConstant w.in_module (scope_in w) vars o target code rest → TargetFits target h → Fine last rest → Fine last code
+  fine_literal None k h target code rest is x t l g = absurd t
+  fine_literal (Some e) k h target code rest is x t l g = subst (Fine _) (sym t) (fine_deliver target h e rest l (fine_constant k h e x is) g)
 
-  fine_variable : {last : Bool} (o : Option Slot) (x : VarId) (h : Rep) (place : Place) (code rest : Code) → slot_of x (scope_in w) ≡ o
-      → TrVariable w.in_module (scope_in w) vars o h place code rest → PlaceFits place h → Fine last rest → Fine last code
-  fine_variable None x h place code rest found t l g = absurd t
-  fine_variable (Some (PlainAt r y)) x h place code rest found t l g =
+  fine_variable : {last : Bool} (o : Option Slot) (x : VarId) (h : Rep) (target : Target) (code rest : Code) → slot_of x (scope_in w) ≡ o
+      → TrVariable w.in_module (scope_in w) vars o h target code rest → TargetFits target h → Fine last rest → Fine last code
+  fine_variable None x h target code rest found t l g = absurd t
+  fine_variable (Some (PlainAt r y)) x h target code rest found t l g =
       let there : IsLocal vars y (c_type_of h) = subst (λ k. IsLocal vars y (c_type_of k)) (sym t.0) (grounds.scoped x r y found) in
-      subst (Fine _) (sym t.1) (fine_deliver place h (expr.Atom (atom.Name y)) rest l (fine_local y (c_type_of h) there) g)
+      subst (Fine _) (sym t.1) (fine_deliver target h (expr.Atom (atom.Name y)) rest l (fine_local y (c_type_of h) there) g)
 
   fine_variable_unused : {last : Bool} (o : Option Slot) (code rest : Code) → TrVariableUnused w.in_module (scope_in w) vars o code rest → Fine last rest → Fine last code
   fine_variable_unused None code rest t g = absurd t
@@ -376,16 +362,16 @@ module _ (w : Setting) (sigs : List Signature) (vars : List CVar) (grounds : Gro
 
   -- a value's statements are right before a right rest
   abbrev AllFine : Bool → Statements → Rep → Type 0
-  AllFine last given h = (place : Place) (code rest : Code) → given place code rest → PlaceFits place h → Fine last rest → Fine last code
+  AllFine last given h = (target : Target) (code rest : Code) → given target code rest → TargetFits target h → Fine last rest → Fine last code
 
-  fine_coerced : {last : Bool} (h : Rep) (given : Statements) (live : List Name) (place : Place) (code rest : Code) → AllFine last given h → PlaceFits place Obj → Coerced vars h Obj given live place code rest → Fine last rest → Fine last code
-  fine_coerced Obj given live place code rest each l c g = each place code rest c l g
-  fine_coerced Long given live place code rest each l c g =
+  fine_coerced : {last : Bool} (h : Rep) (given : Statements) (live : List Name) (target : Target) (code rest : Code) → AllFine last given h → TargetFits target Obj → Coerced vars h Obj given live target code rest → Fine last rest → Fine last code
+  fine_coerced Obj given live target code rest each l c g = each target code rest c l g
+  fine_coerced Long given live target code rest each l c g =
       each (into c.temporary) code c.middle c.value c.is_local
-      (subst (Fine _) (sym c.box) (fine_deliver place Obj (expr.Call (operation BoxLong (local c.temporary ∷ []))) rest l (fine_on BoxLong c.temporary c_ty.Long refl c.is_local) g))
-  fine_coerced Truth_rep given live place code rest each l c g =
+      (subst (Fine _) (sym c.box) (fine_deliver target Obj (expr.Call (operation BoxLong (local c.temporary ∷ []))) rest l (fine_on BoxLong c.temporary c_ty.Long refl c.is_local) g))
+  fine_coerced Truth_rep given live target code rest each l c g =
       each (into c.temporary) code c.middle c.value c.is_local
-      (subst (Fine _) (sym c.box) (fine_deliver place Obj (expr.Call (operation BoxBool (local c.temporary ∷ []))) rest l (fine_on BoxBool c.temporary c_ty.Int refl c.is_local) g))
+      (subst (Fine _) (sym c.box) (fine_deliver target Obj (expr.Call (operation BoxBool (local c.temporary ∷ []))) rest l (fine_on BoxBool c.temporary c_ty.Int refl c.is_local) g))
 
   fine_branches : {last : Bool} (h : Rep) (given : Statements) (live : List Name) (one other : Code → Type 0) (code rest : Code) → AllFine last given h → ((code : Code) → one code → Fine false code) → ((code : Code) → other code → Fine false code)
       → Branches vars h given live one other code rest → Fine last rest → Fine last code
@@ -397,29 +383,29 @@ module _ (w : Setting) (sigs : List Signature) (vars : List CVar) (grounds : Gro
   mutual
     unfolding Tr TrArguments
 
-    fine_tr : {last : Bool} (n : Tree) → IsNode w n → (h : Rep) (live : List Name) (place : Place) (code rest : Code) → TrIn w vars n h live place code rest → PlaceFits place h → Fine last rest → Fine last code
-    fine_tr (Constant k) x h live place code rest t l g = fine_literal (constant_expr k h) k h place code rest refl x t l g
-    fine_tr (Variable v) x h live place code rest t l g = fine_variable (slot_of v (scope_in w)) v h place code rest refl t l g
-    fine_tr (If a b c) x h live place code rest t l g =
-        let word : PlaceFits place Obj = subst (PlaceFits place) t.0 l in
-        fine_branches (has_of (scope_in w) a Truth_rep) (λ place code rest. TrIn w vars a (has_of (scope_in w) a Truth_rep) live place code rest) live
-        (λ code. Coerced vars (has_of (scope_in w) b Obj) Obj (λ place code rest. TrIn w vars b (has_of (scope_in w) b Obj) live place code rest) live place code done)
-        (λ code. Coerced vars (has_of (scope_in w) c Obj) Obj (λ place code rest. TrIn w vars c (has_of (scope_in w) c Obj) live place code rest) live place code done) code rest
-        (λ place code rest t l f. fine_tr a x.0 (has_of (scope_in w) a Truth_rep) live place code rest t l f)
-        (λ code t. fine_coerced (has_of (scope_in w) b Obj) (λ place code rest. TrIn w vars b (has_of (scope_in w) b Obj) live place code rest) live place code done
-        (λ place code rest t l f. fine_tr b x.1 (has_of (scope_in w) b Obj) live place code rest t l f) word t fine_done)
-        (λ code t. fine_coerced (has_of (scope_in w) c Obj) (λ place code rest. TrIn w vars c (has_of (scope_in w) c Obj) live place code rest) live place code done
-        (λ place code rest t l f. fine_tr c x.2 (has_of (scope_in w) c Obj) live place code rest t l f) word t fine_done)
+    fine_tr : {last : Bool} (n : Tree) → IsNode w n → (h : Rep) (live : List Name) (target : Target) (code rest : Code) → TrIn w vars n h live target code rest → TargetFits target h → Fine last rest → Fine last code
+    fine_tr (Constant k) x h live target code rest t l g = fine_literal (constant_expr k h) k h target code rest refl x t l g
+    fine_tr (Variable v) x h live target code rest t l g = fine_variable (slot_of v (scope_in w)) v h target code rest refl t l g
+    fine_tr (If a b c) x h live target code rest t l g =
+        let word : TargetFits target Obj = subst (TargetFits target) t.0 l in
+        fine_branches (has_of (scope_in w) a Truth_rep) (λ target code rest. TrIn w vars a (has_of (scope_in w) a Truth_rep) live target code rest) live
+        (λ code. Coerced vars (has_of (scope_in w) b Obj) Obj (λ target code rest. TrIn w vars b (has_of (scope_in w) b Obj) live target code rest) live target code done)
+        (λ code. Coerced vars (has_of (scope_in w) c Obj) Obj (λ target code rest. TrIn w vars c (has_of (scope_in w) c Obj) live target code rest) live target code done) code rest
+        (λ target code rest t l f. fine_tr a x.0 (has_of (scope_in w) a Truth_rep) live target code rest t l f)
+        (λ code t. fine_coerced (has_of (scope_in w) b Obj) (λ target code rest. TrIn w vars b (has_of (scope_in w) b Obj) live target code rest) live target code done
+        (λ target code rest t l f. fine_tr b x.1 (has_of (scope_in w) b Obj) live target code rest t l f) word t fine_done)
+        (λ code t. fine_coerced (has_of (scope_in w) c Obj) (λ target code rest. TrIn w vars c (has_of (scope_in w) c Obj) live target code rest) live target code done
+        (λ target code rest t l f. fine_tr c x.2 (has_of (scope_in w) c Obj) live target code rest t l f) word t fine_done)
         t.1 g
-    fine_tr (Sequence ts) x h live place code rest t l g = absurd x
-    fine_tr (Call f ns) x h live place code rest t l g =
-        fine_called (callee_of w.in_module f) f ns live (λ c. deliver place (expr.Call c) rest) code rest refl
+    fine_tr (Sequence ts) x h live target code rest t l g = absurd x
+    fine_tr (Call f ns) x h live target code rest t l g =
+        fine_called (callee_of w.in_module f) f ns live (λ c. deliver target (expr.Call c) rest) code rest refl
         (λ ys code middle a f. fine_arguments ns x.1 (objects ns) live ys code middle a f)
-        (λ c f. fine_deliver place Obj (expr.Call c) rest (subst (PlaceFits place) t.0 l) (fine_call c c_ty.Obj f) g) g t.1
-    fine_tr (Primitive p ns) x h live place code rest t l g =
-        fine_applied (params_of p) ns live (λ args. deliver place (expr.Call (operation (Does p) args)) rest) code
+        (λ c f. fine_deliver target Obj (expr.Call c) rest (subst (TargetFits target) t.0 l) (fine_call c c_ty.Obj f) g) g t.1
+    fine_tr (Primitive p ns) x h live target code rest t l g =
+        fine_applied (params_of p) ns live (λ args. deliver target (expr.Call (operation (Does p) args)) rest) code
         (λ ys code middle a f. fine_arguments ns x.1 (params_of p) live ys code middle a f)
-        (λ args f. fine_deliver place h (expr.Call (operation (Does p) args)) rest l
+        (λ args f. fine_deliver target h (expr.Call (operation (Does p) args)) rest l
         (subst (λ k. FineExpr (expr.Call (operation (Does p) args)) (c_type_of k)) (sym t.0) (fine_call (operation (Does p) args) (c_type_of (rep_of (result_of p))) (fine_primitive p args f))) g)
         t.1
 
@@ -435,9 +421,9 @@ module _ (w : Setting) (sigs : List Signature) (vars : List CVar) (grounds : Gro
   fine_unused (Constant c) x live code rest t g = subst (Fine _) (sym t) g
   fine_unused (Variable v) x live code rest t g = fine_variable_unused (slot_of v (scope_in w)) code rest t g
   fine_unused (If a b c) x live code rest t g =
-      fine_branches (has_of (scope_in w) a Truth_rep) (λ place code rest. TrIn w vars a (has_of (scope_in w) a Truth_rep) live place code rest) live
+      fine_branches (has_of (scope_in w) a Truth_rep) (λ target code rest. TrIn w vars a (has_of (scope_in w) a Truth_rep) live target code rest) live
       (λ code. TrUnusedIn w vars b live code done) (λ code. TrUnusedIn w vars c live code done) code rest
-      (λ place code rest t l f. fine_tr a x.0 (has_of (scope_in w) a Truth_rep) live place code rest t l f)
+      (λ target code rest t l f. fine_tr a x.0 (has_of (scope_in w) a Truth_rep) live target code rest t l f)
       (λ code t. fine_unused b x.1 live code done t fine_done) (λ code t. fine_unused c x.2 live code done t fine_done) t g
   fine_unused (Sequence ts) x live code rest t g = absurd x
   fine_unused (Call f ns) x live code rest t g =
@@ -451,8 +437,8 @@ module _ (w : Setting) (sigs : List Signature) (vars : List CVar) (grounds : Gro
   unfolding TrLast
   fine_last none x live code rest t g = absurd t
   fine_last (more n none) x live code rest t g =
-      fine_coerced (has_of (scope_in w) n Obj) (λ place code rest. TrIn w vars n (has_of (scope_in w) n Obj) live place code rest) live back code rest
-      (λ place code rest t l f. fine_tr n x.0 (has_of (scope_in w) n Obj) live place code rest t l f) refl t g
+      fine_coerced (has_of (scope_in w) n Obj) (λ target code rest. TrIn w vars n (has_of (scope_in w) n Obj) live target code rest) live back code rest
+      (λ target code rest t l f. fine_tr n x.0 (has_of (scope_in w) n Obj) live target code rest t l f) refl t g
   fine_last (more n (more u us)) x live code rest t g = fine_unused n x.0 live code t.middle t.one (fine_last (more u us) x.1 live t.middle rest t.all g)
 
   pub fine_all_unused : {last : Bool} (ts : Trees) → AreNodes w ts → (live : List Name) (code rest : Code) → TrAllUnusedIn w vars ts live code rest → Fine last rest → Fine last code

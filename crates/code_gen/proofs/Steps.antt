@@ -12,9 +12,9 @@ use Rattle.plan_rules.specs.declared.rep.Rep.{Rep}
 use Rattle.plan_rules.specs.Representation.{c_type_of}
 use Rattle.plan_rules.specs.Translation.{Name, IsLocal, deliver}
 use Rattle.code_gen.specs.declared.emitter.Emitter.{Emitter}
-use Rattle.code_gen.specs.declared.emitter.Place.{Place as Target}
-use Rattle.code_gen.specs.declared.emitter.Place.TheVariants.{Into, Back}
-use Rattle.code_gen.specs.Emission.{place_of, piece_to, AreCounted, AreLocals, AddsLocal, Puts, Grows, Emits, Stores, LeavesUnset}
+use Rattle.code_gen.specs.declared.emitter.Target.{Target as NumberedTarget}
+use Rattle.code_gen.specs.declared.emitter.Target.TheVariants.{Into, Back}
+use Rattle.code_gen.specs.Emission.{target_of, piece_to, AreCounted, AreLocals, AddsLocal, Puts, Grows, Emits, Stores, LeavesUnset}
 use Rattle.code_gen.proofs.Counts.{counted_one, locals_before, local_last}
 
 abbrev pub Means : Type 1
@@ -104,12 +104,12 @@ put_emits s t one wrap wraps p = record {
 pub call_emits : (s t : Emitter) (c : CCall) → Puts s t (piece.Call c) → Emits s t (λ vars code rest. code ≡ call c rest)
 call_emits s t c p = put_emits s t (piece.Call c) (λ rest. call c rest) (λ rest out. refl) p
 
-delivers : (to : Target) (e : CExpr) (rest : Code) (out : List Piece) → pieces (deliver (place_of to) e rest) out ≡ piece_to to e ∷ pieces rest out
+delivers : (to : NumberedTarget) (e : CExpr) (rest : Code) (out : List Piece) → pieces (deliver (target_of to) e rest) out ≡ piece_to to e ∷ pieces rest out
 delivers (Into x) e rest out = refl
 delivers Back e rest out = refl
 
-pub deliver_emits : (s t : Emitter) (to : Target) (e : CExpr) → Puts s t (piece_to to e) → Emits s t (λ vars code rest. code ≡ deliver (place_of to) e rest)
-deliver_emits s t to e p = put_emits s t (piece_to to e) (λ rest. deliver (place_of to) e rest) (delivers to e) p
+pub deliver_emits : (s t : Emitter) (to : NumberedTarget) (e : CExpr) → Puts s t (piece_to to e) → Emits s t (λ vars code rest. code ≡ deliver (target_of to) e rest)
+deliver_emits s t to e p = put_emits s t (piece_to to e) (λ rest. deliver (target_of to) e rest) (delivers to e) p
 
 -- A local with a value ----------------------------------------------------------------------
 

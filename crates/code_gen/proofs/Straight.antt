@@ -18,7 +18,7 @@ use Rattle.code_gen.proofs.Soundness.{signature, Fine, fine_end, fine_all_unused
 use Rattle.c_tree.proofs.CNames.{named_maker, named_initializer}
 use Rattle.code_gen.proofs.Declared.{Within}
 use Rattle.code_gen.proofs.Functions.{HasVariables, has_variables, grounded}
-use Rattle.code_gen.proofs.Roles.{maker_role, initializer_role, last_names, function_not_maker, function_not_initializer, maker_not_initializer}
+use Rattle.plan_rules.proofs.NameKinds.{maker_role, initializer_role, last_names, function_not_maker, function_not_initializer, maker_not_initializer}
 
 -- what a function without a loop is
 record Straight (sigs : List Signature) (g : Fun) : Type 0 where

@@ -25,7 +25,7 @@ use Rattle.code_gen.proofs.Declared.{Has, Within, has_before, has_turned, contai
 use Rattle.code_gen.proofs.Straight.{last_items, last_named, last_translated, last_spelled, last_fit}
 use Rattle.code_gen.proofs.OwnFunctions.{own_more}
 use Rattle.code_gen.proofs.Functions.{Fits, function_fits_module}
-use Rattle.code_gen.proofs.Roles.{last_names}
+use Rattle.plan_rules.proofs.NameKinds.{last_names}
 
 -- Functions are added -----------------------------------------------------------------------
 

@@ -2,7 +2,7 @@
 use Rattle.std.proofs.Common.{◌≡◌, ℕ, suc, ◌<◌, ◌≤◌, ◌^◌, Bool, true, false, List, [], ◌∷◌, map, Some, refl, sym, ap, ◌∙◌, subst, arith}
 use Rattle.std.specs.Prelude.{not, ◌||◌, IsTrue, if◌then◌else◌}
 use Rattle.std.specs.List.{list_any}
-use Rattle.std.specs.Cmp.Lexicographic.{same_text, other_text}
+use Rattle.std.specs.Cmp.Lexicographic.{bytes_decides, nat_list_eq_equiv}
 use Rattle.std.proofs.lemmas.Bool.{and_from}
 use Rattle.scheme_data.specs.Names.{are_distinct, is_same}
 use Rattle.c_tree.specs.declared.tree.CTy.{CTy}
@@ -13,27 +13,11 @@ use Rattle.c_tree.specs.Spelling.{NamedVars}
 use Rattle.c_tree.proofs.NameShapes.{local_name_injective, is_local_name-local_name}
 use Rattle.c_meaning.specs.Checked.{same_type, is_typed, variable_named}
 use Rattle.plan_rules.specs.Translation.{Name, IsLocal}
+use Rattle.plan_rules.proofs.NameKinds.{other_name}
 use Rattle.code_gen.specs.Emission.{AreCounted, AreLocals}
 use Rattle.code_gen.proofs.Counts.{counted_later}
 
 -- Tests of names and types ------------------------------------------------------------------
-
-pub same_name : (a b : Name) → is_same a b ≡ true → a ≡ b
-same_name a b e = same_text a b (sym e)
-
-pub is_itself : (a : Name) → is_same a a ≡ true
-is_itself a = go (is_same a a) refl
-  where
-    go : (x : Bool) → is_same a a ≡ x → x ≡ true
-    go true e = refl
-    go false e = absurd (other_text a a (sym e) refl)
-
-pub other_name : (a b : Name) → (a ≡ b → ⊥) → is_same a b ≡ false
-other_name a b ne = go (is_same a b) refl
-  where
-    go : (x : Bool) → is_same a b ≡ x → x ≡ false
-    go true e = absurd (ne (same_name a b e))
-    go false e = refl
 
 other_number : (n k : ℕ) → n < k → k < 2 ^ 32 → is_same (local_name n) (local_name k) ≡ false
 other_number n k lt small = other_name (local_name n) (local_name k) (λ e. let same : n ≡ k = local_name_injective n k (omega arith) (omega arith) e in absurd (omega arith))
@@ -67,7 +51,7 @@ passed_over : (w : CVar) (ws : List CVar) (x : Name) (t : CTy) → is_same w.nam
 passed_over w ws x t other h = rw other h
 
 found_first : (w : CVar) (ws : List CVar) → IsLocal (w ∷ ws) w.name w.ty
-found_first w ws = rw (is_itself w.name) (own_type w.ty)
+found_first w ws = rw (nat_list_eq_equiv.refl w.name) (own_type w.ty)
 
 skip : (w : CVar) (ws vs : List CVar) (n k m : ℕ) → n < k → w.name ≡ local_name n → AreCounted vs k m → m ≤ 2 ^ 32 → AreLocals ws vs → AreLocals (w ∷ ws) vs
 unfolding AreCounted AreLocals
@@ -91,7 +75,7 @@ counted_named (v ∷ vs) k m h small =
 
 found_named : (b : Bool) (v : CVar) (vs : List CVar) (x : Name) (t : CTy) → is_same v.name x ≡ b → IsTrue (is_local_name v.name)
     → (IsLocal vs x t → IsTrue (is_local_name x)) → IsTrue (is_typed t (if b then Some v else variable_named vs x)) → IsTrue (is_local_name x)
-found_named true v vs x t same named others h = subst (λ y. IsTrue (is_local_name y)) (same_name v.name x same) named
+found_named true v vs x t same named others h = subst (λ y. IsTrue (is_local_name y)) ((bytes_decides v.name x).0 same) named
 found_named false v vs x t same named others h = others h
 
 -- a variable's name is a local's name

@@ -20,7 +20,7 @@ use Rattle.plan_rules.specs.declared.rep.Rep.TheVariants.{Obj, Bool as Truth_rep
 use Rattle.plan_rules.specs.Representation.{PlainAt, slot_of, has_of}
 use Rattle.plan_rules.specs.Translation.{Name, back, Branches, objects, Tr, TrAllUnused, TrLast}
 use Rattle.code_gen.specs.declared.emitter.Emitter.{Emitter}
-use Rattle.code_gen.specs.declared.emitter.Place.TheVariants.{Back}
+use Rattle.code_gen.specs.declared.emitter.Target.TheVariants.{Back}
 use Rattle.code_gen.specs.Settings.{Setting, scope_in, AreNodes, TrIn, TrUnusedIn, TrAllUnusedIn, TrLastIn}
 use Rattle.code_gen.specs.Emission.{AreBelow, Puts, Emits, IsTested, IsPrimitiveCall, IsCounted, IsMiscounted, IsFunctionCall, IsUnused, AreUnused, Delivered, IsDelivered, IsBodyOf}
 use Rattle.code_gen.proofs.Counts.{below_more}
@@ -77,7 +77,7 @@ module _ (w : Setting) where
   unused_if s t u v x y z a b c e tested opens one turns other closes = record {
     emits = weaker s z
         (λ vars code rest. (live : List Name) → AreBelow s.next live
-        → Branches vars (has_of (scope_in w) a Truth_rep) (λ place code rest. TrIn w vars a (has_of (scope_in w) a Truth_rep) live place code rest) live
+        → Branches vars (has_of (scope_in w) a Truth_rep) (λ target code rest. TrIn w vars a (has_of (scope_in w) a Truth_rep) live target code rest) live
         (λ code. TrUnusedIn w vars b live code done) (λ code. TrUnusedIn w vars c live code done) code rest)
         (Unused s.next (If a b c))
         (branch w s t u v x y z a e (λ vars live code rest. TrUnusedIn w vars b live code rest) (λ vars live code rest. TrUnusedIn w vars c live code rest)

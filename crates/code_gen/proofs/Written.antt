@@ -11,7 +11,7 @@ use Rattle.c_tree.specs.Pieces.{pieces}
 use Rattle.plan_rules.specs.declared.rep.Rep.TheVariants.{Obj}
 use Rattle.plan_rules.specs.Translation.{Name, back, TrAllUnused}
 use Rattle.code_gen.specs.declared.emitter.Emitter.{Emitter}
-use Rattle.code_gen.specs.declared.emitter.Place.TheVariants.{Back}
+use Rattle.code_gen.specs.declared.emitter.Target.TheVariants.{Back}
 use Rattle.code_gen.specs.Scopes.{words}
 use Rattle.code_gen.specs.Settings.{Setting, TrIn, TrAllUnusedIn}
 use Rattle.code_gen.specs.Emission.{AreBelow, AreCounted, IsFresh, Puts, Emits, AreUnused, IsBodyOf, setting_of, word_names, variables_with, unspecified, IsLooped, IsStraight, IsFunctionOf, IsInitialization}

@@ -2,6 +2,7 @@
 use Rattle.std.specs.Prelude.{◌≡◌, ℕ, suc, ◌<◌, ◌≤◌, ◌^◌, List, [], ◌∷◌, ◌++◌, map, replicate, IsTrue, true, false, length, Option, Some, None}
 use Rattle.std.specs.List.{list_all}
 use Rattle.built_table.specs.declared.primitives.Ty.{Ty}
+use Rattle.built_table.specs.declared.primitives.Ty.TheVariants as ty
 use Rattle.built_table.specs.declared.primitives.Primitive.{Primitive as Builtin}
 use Rattle.built_table.specs.Table.{params_of, is_parameter_type}
 use Rattle.core_tree.specs.declared.tree.VarId.{VarId}
@@ -23,31 +24,38 @@ use Rattle.c_tree.specs.Pieces.{pieces}
 use Rattle.plan_rules.specs.declared.rep.Rep.{Rep}
 use Rattle.plan_rules.specs.declared.rep.Rep.TheVariants.{Obj, Bool as Truth_rep}
 use Rattle.plan_rules.specs.Representation.{c_type_of, has_of, operation, call_of, local, condition, Step, Keep, Make, Refuse, step}
-use Rattle.plan_rules.specs.Translation.{Name, Fresh, IsLocal, Place, Coerced, Fits, Refused, AllFit, Miscounted, haves, objects, is_counted, c_name_of, callees, into, back, deliver, TrAllUnused, TrForms}
+use Rattle.plan_rules.specs.Translation.{Name, Fresh, IsLocal, Target, Coerced, Fits, Refused, AllFit, Miscounted, haves, objects, is_counted, c_name_of, callees, into, back, deliver, TrAllUnused, TrForms}
 use Rattle.code_gen.specs.Scopes.{words}
 use Rattle.code_gen.specs.Settings.{Setting, scope_in, TrIn, TrUnusedIn, TrAllUnusedIn, TrArgumentsIn}
 use Rattle.code_gen.specs.declared.coercions.Coercion.{Coercion}
 use Rattle.code_gen.specs.declared.coercions.Coercion.TheVariants as coercion
 use Rattle.code_gen.specs.declared.emitter.Emitter.{Emitter}
 use Rattle.code_gen.specs.declared.emitter.Held.{Held}
-use Rattle.code_gen.specs.declared.emitter.Place.{Place as Target}
-use Rattle.code_gen.specs.declared.emitter.Place.TheVariants.{Into, Back}
+use Rattle.code_gen.specs.declared.emitter.Target.{Target as NumberedTarget}
+use Rattle.code_gen.specs.declared.emitter.Target.TheVariants.{Into, Back}
+use Rattle.code_gen.specs.declared.wanted.Wanted.{Wanted}
+use Rattle.code_gen.specs.declared.wanted.Wanted.TheVariants.{Words, Of}
 
 abbrev pub step_of : Coercion → Step
 step_of coercion.Keep = Keep
 step_of (coercion.Make op) = Make op
 step_of coercion.Refuse = Refuse
 
+-- the types that a call wants of its arguments
+abbrev pub types_of : Wanted → List Ty
+types_of (Words n) = replicate n ty.Obj
+types_of (Of p) = params_of p
+
 -- types that parameters have
 abbrev pub AreParameters : List Ty → Type 0
 AreParameters types = IsTrue (list_all is_parameter_type types)
 
-abbrev pub place_of : Target → Place
-place_of (Into x) = into (local_name x)
-place_of Back = back
+abbrev pub target_of : NumberedTarget → Target
+target_of (Into x) = into (local_name x)
+target_of Back = back
 
--- the statement by which a value goes to a place
-abbrev pub piece_to : Target → CExpr → Piece
+-- the statement by which a value goes to a target
+abbrev pub piece_to : NumberedTarget → CExpr → Piece
 piece_to (Into x) e = piece.Assign (local_name x) e
 piece_to Back e = piece.Return e
 
@@ -204,16 +212,16 @@ pub record IsUnused (w : Setting) (s t : Emitter) (n : Tree) : Type 0 where
 pub record AreUnused (w : Setting) (s t : Emitter) (ns : Trees) : Type 0 where
   pub emits : Emits s t (λ vars code rest. (live : List Name) → AreBelow s.next live → TrAllUnusedIn w vars ns live code rest)
 
--- a node's value goes to a place, as a word
-abbrev pub Delivered : Setting → Tree → List Name → List CVar → Place → Code → Code → Type 0
-Delivered w n live vars place code rest = Coerced vars (has_of (scope_in w) n Obj) Obj (λ place code rest. TrIn w vars n (has_of (scope_in w) n Obj) live place code rest) live place code rest
+-- a node's value goes to a target, as a word
+abbrev pub Delivered : Setting → Tree → List Name → List CVar → Target → Code → Code → Type 0
+Delivered w n live vars target code rest = Coerced vars (has_of (scope_in w) n Obj) Obj (λ target code rest. TrIn w vars n (has_of (scope_in w) n Obj) live target code rest) live target code rest
 
-pub record IsDelivered (w : Setting) (s t : Emitter) (n : Tree) (to : Target) : Type 0 where
-  pub emits : Emits s t (λ vars code rest. (live : List Name) → AreBelow s.next live → Delivered w n live vars (place_of to) code rest)
+pub record IsDelivered (w : Setting) (s t : Emitter) (n : Tree) (to : NumberedTarget) : Type 0 where
+  pub emits : Emits s t (λ vars code rest. (live : List Name) → AreBelow s.next live → Delivered w n live vars (target_of to) code rest)
 
--- what a call gives goes to a place, as a word
-pub record GivesWord (s t : Emitter) (h : Rep) (c : CCall) (to : Target) : Type 0 where
-  pub emits : Emits s t (λ vars code rest. (live : List Name) → AreBelow s.next live → Coerced vars h Obj (λ place code rest. code ≡ deliver place (expr.Call c) rest) live (place_of to) code rest)
+-- what a call gives goes to a target, as a word
+pub record GivesWord (s t : Emitter) (h : Rep) (c : CCall) (to : NumberedTarget) : Type 0 where
+  pub emits : Emits s t (λ vars code rest. (live : List Name) → AreBelow s.next live → Coerced vars h Obj (λ target code rest. code ≡ deliver target (expr.Call c) rest) live (target_of to) code rest)
 
 pub record IsBodyOf (w : Setting) (s t : Emitter) (n : Tree) : Type 0 where
   pub emits : Emits s t (λ vars code rest. (live : List Name) → AreBelow s.next live → TrIn w vars n Obj live back code rest)

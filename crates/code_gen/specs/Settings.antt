@@ -36,7 +36,7 @@ IsBodyIn w n = IsBody w.in_module w.params n
 -- Their statements --------------------------------------------------------------------------
 
 abbrev pub TrIn : Setting → List CVar → Tree → Rep → List Name → Statements
-TrIn w vars n h live place code rest = Tr w.in_module (scope_in w) vars n h live place code rest
+TrIn w vars n h live target code rest = Tr w.in_module (scope_in w) vars n h live target code rest
 
 abbrev pub TrUnusedIn : Setting → List CVar → Tree → List Name → Code → Code → Type 0
 TrUnusedIn w vars n live code rest = TrUnused w.in_module (scope_in w) vars n live code rest
@@ -45,7 +45,7 @@ abbrev pub TrAllUnusedIn : Setting → List CVar → Trees → List Name → Cod
 TrAllUnusedIn w vars ns live code rest = TrAllUnused w.in_module (scope_in w) vars ns live code rest
 
 abbrev pub TrLastIn : Setting → List CVar → Trees → Rep → List Name → Statements
-TrLastIn w vars ns h live place code rest = TrLast w.in_module (scope_in w) vars ns h live place code rest
+TrLastIn w vars ns h live target code rest = TrLast w.in_module (scope_in w) vars ns h live target code rest
 
 abbrev pub TrArgumentsIn : Setting → List CVar → List Ty → Trees → List Name → List Name → Code → Code → Type 0
 TrArgumentsIn w vars types ns live temporaries code rest = TrArguments w.in_module (scope_in w) vars types ns live temporaries code rest

@@ -7,7 +7,7 @@ ghost use Rattle.code_gen.specs.Emission.{IsUnused, AreUnused, IsBodyOf};
 use crate::branches::tested;
 use crate::calls::{function_call, primitive_call};
 use crate::context::Context;
-use crate::emitter::{Emitter, Place};
+use crate::emitter::{Emitter, Target};
 use crate::nodes::delivered;
 use c_tree::Piece;
 use core_tree::{Node, Top};
@@ -87,7 +87,7 @@ fn sequence(ctx: &Context, e: &mut Emitter, nodes: &[Node]) -> Result<(), OutOfM
     for i in 0..last {
         unused(ctx, e, &nodes[i])?;
     }
-    delivered(ctx, e, &nodes[last], Place::Back)
+    delivered(ctx, e, &nodes[last], Target::Back)
 }
 
 /// The statements of a function's body.

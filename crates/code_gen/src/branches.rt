@@ -5,7 +5,7 @@ ghost use Rattle.code_gen.specs.Settings.{setting, IsNode};
 ghost use Rattle.code_gen.specs.Emission.{IsTested, IsDelivered};
 
 use crate::context::Context;
-use crate::emitter::{Emitter, Place};
+use crate::emitter::{Emitter, Target};
 use crate::nodes::{delivered, value};
 use crate::parts::condition;
 use c_tree::{CExpr, Piece};
@@ -23,7 +23,7 @@ pub fn tested(ctx: &Context, e: &mut Emitter, test: &Node) -> Result<CExpr, OutO
     condition(e.alloc, held)
 }
 
-/// Both blocks give their values as words to one place.
+/// Both blocks give their values as words to one target.
 #[cycle(values)]
 pub fn branches(
     ctx: &Context,
@@ -31,15 +31,15 @@ pub fn branches(
     test: &Node,
     first: &Node,
     second: &Node,
-    place: Place,
+    target: Target,
 ) -> Result<(), OutOfMemory>
     requires { IsNode (setting ctx.now) (If (tree test.now) (tree first.now) (tree second.now)) }
-    ensures { OnOk result (IsDelivered (setting ctx.now) e.old e.new (If (tree test.now) (tree first.now) (tree second.now)) place) }
+    ensures { OnOk result (IsDelivered (setting ctx.now) e.old e.new (If (tree test.now) (tree first.now) (tree second.now)) target) }
 {
     let chosen = tested(ctx, e, test)?;
     e.put(Piece::If(chosen))?;
-    delivered(ctx, e, first, place)?;
+    delivered(ctx, e, first, target)?;
     e.put(Piece::Else)?;
-    delivered(ctx, e, second, place)?;
+    delivered(ctx, e, second, target)?;
     e.put(Piece::End)
 }

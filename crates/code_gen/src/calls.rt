@@ -4,14 +4,15 @@ ghost use Rattle.built_table.specs.Table.{params_of};
 ghost use Rattle.core_tree.specs.Tree.{tree, trees, callee_of};
 ghost use Rattle.core_tree.specs.WellFormed.{AsMany, IsFound};
 ghost use Rattle.code_gen.specs.Settings.{setting, AreNodes};
-ghost use Rattle.code_gen.specs.Emission.{AreParameters, AreArguments, IsReady, IsPrimitiveCall, IsFunctionCall};
+ghost use Rattle.code_gen.specs.Emission.{types_of, AreParameters, AreArguments, IsReady, IsPrimitiveCall, IsFunctionCall};
 
 use crate::coercions::fitted;
 use crate::context::Context;
 use crate::emitter::{Emitter, Held};
 use crate::nodes::value;
-use crate::parts::{local_args, object_types, param_types, raise_count, rep};
-use built_table::{Primitive, Ty};
+use crate::parts::{local_args, raise_count, rep};
+use crate::wanted::Wanted;
+use built_table::Primitive;
 use c_tree::{CArg, CCall, Callee, Op, Piece};
 use core_tree::{GlobalRef, Node};
 use scheme_data::{List, OutOfMemory};
@@ -28,7 +29,7 @@ pub fn primitive_call(
     requires expressions { AreNodes (setting ctx.now) (trees (map tree nodes.now)) }
     ensures { IfOk result (λ call. IsPrimitiveCall (setting ctx.now) e.old e.new p (trees (map tree nodes.now)) call) }
 {
-    let args = ready(ctx, e, param_types(p), nodes)?;
+    let args = ready(ctx, e, Wanted::Of(p), nodes)?;
     Ok(CCall {
         callee: Callee::Op(Op::Primitive(p)),
         args,
@@ -48,14 +49,14 @@ pub fn function_call(
     ensures { IfOk result (λ call. IsFunctionCall (setting ctx.now) e.old e.new g (trees (map tree nodes.now)) call) }
 {
     let called = ctx.functions.callee(g);
-    let types = object_types(e.alloc, nodes)?;
+    let wanted = Wanted::Words(nodes.len());
     if nodes.len() != called.params {
-        arguments(ctx, e, types.as_slice(), nodes)?;
+        arguments(ctx, e, wanted, nodes)?;
         let raise = raise_count(e.alloc, called.params)?;
         e.put(Piece::Call(raise))?;
         return Ok(None);
     }
-    let args = ready(ctx, e, types.as_slice(), nodes)?;
+    let args = ready(ctx, e, wanted, nodes)?;
     let name = called.c_name(e.alloc)?;
     Ok(Some(CCall {
         callee: Callee::Fun(name),
@@ -68,16 +69,16 @@ pub fn function_call(
 fn ready(
     ctx: &Context,
     e: &mut Emitter,
-    types: &[Ty],
+    wanted: Wanted,
     nodes: &[Node],
 ) -> Result<List<CArg>, OutOfMemory>
-    requires parameters { AreParameters types.now }
-    requires as_many { AsMany types.now (trees (map tree nodes.now)) }
+    requires parameters { AreParameters (types_of wanted) }
+    requires as_many { AsMany (types_of wanted) (trees (map tree nodes.now)) }
     requires expressions { AreNodes (setting ctx.now) (trees (map tree nodes.now)) }
-    ensures { IfOk result (λ args. IsReady (setting ctx.now) e.old e.new types.now (trees (map tree nodes.now)) args) }
+    ensures { IfOk result (λ args. IsReady (setting ctx.now) e.old e.new (types_of wanted) (trees (map tree nodes.now)) args) }
 {
-    let held = arguments(ctx, e, types, nodes)?;
-    let made = fitted(e, types, held.as_slice())?;
+    let held = arguments(ctx, e, wanted, nodes)?;
+    let made = fitted(e, wanted, held.as_slice())?;
     local_args(e.alloc, made.as_slice())
 }
 
@@ -85,16 +86,16 @@ fn ready(
 fn arguments(
     ctx: &Context,
     e: &mut Emitter,
-    types: &[Ty],
+    wanted: Wanted,
     nodes: &[Node],
 ) -> Result<List<Held>, OutOfMemory>
-    requires as_many { AsMany types.now (trees (map tree nodes.now)) }
+    requires as_many { AsMany (types_of wanted) (trees (map tree nodes.now)) }
     requires expressions { AreNodes (setting ctx.now) (trees (map tree nodes.now)) }
-    ensures { IfOk result (λ held. AreArguments (setting ctx.now) e.old e.new types.now (trees (map tree nodes.now)) held) }
+    ensures { IfOk result (λ held. AreArguments (setting ctx.now) e.old e.new (types_of wanted) (trees (map tree nodes.now)) held) }
 {
     let mut held = List::new(e.alloc);
     for i in 0..nodes.len() {
-        let one = value(ctx, e, &nodes[i], rep(types[i]))?;
+        let one = value(ctx, e, &nodes[i], rep(wanted.at(i)))?;
         held.push(one)?;
     }
     Ok(held)

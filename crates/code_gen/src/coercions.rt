@@ -3,10 +3,11 @@ ghost use Rattle.std.specs.Prelude.{◌≡◌, ◌∷◌, [], length, IfOk, IsTr
 ghost use Rattle.built_table.specs.Table.{is_parameter_type};
 ghost use Rattle.c_tree.specs.Names.{local_name};
 ghost use Rattle.plan_rules.specs.Representation.{step};
-ghost use Rattle.code_gen.specs.Emission.{step_of, AreParameters, AreBelow, held_names, IsRefused, IsFitted, AreFitted};
+ghost use Rattle.code_gen.specs.Emission.{step_of, types_of, AreParameters, AreBelow, held_names, IsRefused, IsFitted, AreFitted};
 
 use crate::emitter::{Emitter, Held};
 use crate::parts::{made_from, raise_type, rep};
+use crate::wanted::Wanted;
 use built_table::Ty;
 use c_tree::{CAtom, CExpr, Op, Piece};
 use plan_rules::Rep;
@@ -62,15 +63,15 @@ fn fit(e: &mut Emitter, ty: Ty, held: Held) -> Result<u32, OutOfMemory>
 }
 
 /// Values are made to fit, from left to right.
-pub fn fitted(e: &mut Emitter, types: &[Ty], held: &[Held]) -> Result<List<u32>, OutOfMemory>
-    requires parameters { AreParameters types.now }
-    requires as_many { length types.now ≡ length held.now }
+pub fn fitted(e: &mut Emitter, wanted: Wanted, held: &[Held]) -> Result<List<u32>, OutOfMemory>
+    requires parameters { AreParameters (types_of wanted) }
+    requires as_many { length (types_of wanted) ≡ length held.now }
     requires below { AreBelow e.old.next (held_names held.now) }
-    ensures { IfOk result (λ made. AreFitted e.old e.new types.now held.now made) }
+    ensures { IfOk result (λ made. AreFitted e.old e.new (types_of wanted) held.now made) }
 {
     let mut made = List::new(e.alloc);
     for i in 0..held.len() {
-        let one = fit(e, types[i], held[i])?;
+        let one = fit(e, wanted.at(i), held[i])?;
         made.push(one)?;
     }
     Ok(made)

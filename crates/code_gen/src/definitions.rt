@@ -14,7 +14,7 @@ ghost use Rattle.code_gen.specs.Emission.{IsLooped, IsStraight, ArePieces, IsFun
 use crate::bodies::{body, forms};
 use crate::callees::{Functions, OwnFunction};
 use crate::context::{Context, Params};
-use crate::emitter::{Emitter, Place};
+use crate::emitter::{Emitter, Target};
 use c_tree::{
     CAtom, CExpr, CFun, CItem, CTy, Layout, Piece, initializer_name_text, label_name_text, lay_out,
 };
@@ -46,7 +46,7 @@ fn straight(alloc: Global, functions: &Functions<'_>) -> Result<Emitter, OutOfMe
     };
     let mut e = Emitter::new(alloc, 0);
     forms(&ctx, &mut e, functions.in_module().tops.as_slice())?;
-    e.deliver(Place::Back, CExpr::Atom(CAtom::Unspec))?;
+    e.deliver(Target::Back, CExpr::Atom(CAtom::Unspec))?;
     Ok(e)
 }
 

@@ -16,7 +16,7 @@ pub struct Held {
 
 /// Where a value goes: into the local of a number, or back from the function.
 #[derive(Clone, Copy, Debug)]
-pub enum Place {
+pub enum Target {
     Into(u32),
     Back,
 }
@@ -65,16 +65,16 @@ impl Emitter {
         self.pieces.push(piece)
     }
 
-    /// A value goes to a place.
-    pub fn deliver(&mut self, place: Place, value: CExpr) -> Result<(), OutOfMemory>
-        ensures { OnOk result (Puts self.old self.new (piece_to place value)) }
+    /// A value goes to a target.
+    pub fn deliver(&mut self, target: Target, value: CExpr) -> Result<(), OutOfMemory>
+        ensures { OnOk result (Puts self.old self.new (piece_to target value)) }
     {
-        match place {
-            Place::Into(x) => {
+        match target {
+            Target::Into(x) => {
                 let name = local_name_text(self.alloc, x)?;
                 self.put(Piece::Assign(name, value))
             }
-            Place::Back => self.put(Piece::Return(value)),
+            Target::Back => self.put(Piece::Return(value)),
         }
     }
 
@@ -83,7 +83,7 @@ impl Emitter {
         ensures { IfOk result (λ held. Stores self.old self.new rep value held) }
     {
         let local = self.local(rep)?;
-        self.deliver(Place::Into(local), value)?;
+        self.deliver(Target::Into(local), value)?;
         Ok(Held { local, rep })
     }
 

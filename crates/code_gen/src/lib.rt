@@ -12,8 +12,6 @@ mod emitter;
 mod generate;
 mod nodes;
 mod parts;
+mod wanted;
 
 pub use generate::generate_unit;
-
-#[cfg(test)]
-mod tests;

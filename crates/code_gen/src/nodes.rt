@@ -8,8 +8,8 @@ use crate::branches::branches;
 use crate::calls::{function_call, primitive_call};
 use crate::coercions::{Coercion, coercion_to};
 use crate::context::Context;
-use crate::emitter::{Emitter, Held, Place};
-use crate::parts::{constant, constant_rep, local_expr, made_from, rep, result_type, word};
+use crate::emitter::{Emitter, Held, Target};
+use crate::parts::{constant, constant_rep, local_expr, made_from, rep, word};
 use built_table::Ty;
 use c_tree::{CCall, CExpr};
 use core_tree::Node;
@@ -33,7 +33,7 @@ pub fn value(ctx: &Context, e: &mut Emitter, node: &Node, wanted: Rep) -> Result
         }
         Node::If(_, _, _) => {
             let held = e.unset(Rep::Obj)?;
-            delivered(ctx, e, node, Place::Into(held.local))?;
+            delivered(ctx, e, node, Target::Into(held.local))?;
             Ok(held)
         }
         Node::Call(g, nodes) => match function_call(ctx, e, *g, nodes.as_slice())? {
@@ -42,57 +42,57 @@ pub fn value(ctx: &Context, e: &mut Emitter, node: &Node, wanted: Rep) -> Result
         },
         Node::Primitive(p, nodes) => {
             let call = primitive_call(ctx, e, *p, nodes.as_slice())?;
-            e.store(rep(result_type(*p)), CExpr::Call(call))
+            e.store(rep(p.result()), CExpr::Call(call))
         }
         Node::Sequence(_) => unreachable!(),
     }
 }
 
-/// The node's value goes to a place, as a word.
+/// The node's value goes to a target, as a word.
 #[cycle(values)]
 pub fn delivered(
     ctx: &Context,
     e: &mut Emitter,
     node: &Node,
-    place: Place,
+    target: Target,
 ) -> Result<(), OutOfMemory>
     requires { IsNode (setting ctx.now) (tree node.now) }
-    ensures { OnOk result (IsDelivered (setting ctx.now) e.old e.new (tree node.now) place) }
+    ensures { OnOk result (IsDelivered (setting ctx.now) e.old e.new (tree node.now) target) }
 {
     match node {
         Node::Constant(c) => {
             let value = word(e.alloc, *c)?;
-            e.deliver(place, value)
+            e.deliver(target, value)
         }
         Node::Variable(x) => {
             let value = local_expr(e.alloc, ctx.params.local_of(*x))?;
-            e.deliver(place, value)
+            e.deliver(target, value)
         }
         Node::If(test, first, second) => {
-            branches(ctx, e, test.get(), first.get(), second.get(), place)
+            branches(ctx, e, test.get(), first.get(), second.get(), target)
         }
         Node::Call(g, nodes) => match function_call(ctx, e, *g, nodes.as_slice())? {
-            Some(call) => e.deliver(place, CExpr::Call(call)),
+            Some(call) => e.deliver(target, CExpr::Call(call)),
             None => Ok(()),
         },
         Node::Primitive(p, nodes) => {
             let call = primitive_call(ctx, e, *p, nodes.as_slice())?;
-            as_word(e, rep(result_type(*p)), call, place)
+            as_word(e, rep(p.result()), call, target)
         }
         Node::Sequence(_) => unreachable!(),
     }
 }
 
 // What a call gives, as a word.
-fn as_word(e: &mut Emitter, has: Rep, call: CCall, place: Place) -> Result<(), OutOfMemory>
-    ensures { OnOk result (GivesWord e.old e.new has call place) }
+fn as_word(e: &mut Emitter, has: Rep, call: CCall, target: Target) -> Result<(), OutOfMemory>
+    ensures { OnOk result (GivesWord e.old e.new has call target) }
 {
     match coercion_to(Ty::Obj, has) {
-        Coercion::Keep => e.deliver(place, CExpr::Call(call)),
+        Coercion::Keep => e.deliver(target, CExpr::Call(call)),
         Coercion::Make(op) => {
             let held = e.store(has, CExpr::Call(call))?;
             let word = made_from(e.alloc, op, held.local)?;
-            e.deliver(place, word)
+            e.deliver(target, word)
         }
         Coercion::Refuse => unreachable!(),
     }

@@ -1,19 +1,13 @@
 // What a representation, a primitive and a value are in C.
 ghost use Rattle.std.specs.Prelude.{◌≡◌, ◌∷◌, [], ◌++◌, pos, IfOk, map, Some};
-ghost use Rattle.prim_table.specs.Errors.{number_of};
-ghost use Rattle.built_table.specs.declared.primitives.Ty.TheVariants.{Obj};
-ghost use Rattle.built_table.specs.Table.{params_of, result_of};
 ghost use Rattle.c_tree.specs.Names.{local_name};
 ghost use Rattle.plan_rules.specs.declared.rep.Rep.TheVariants.{Obj as Word};
-ghost use Rattle.c_tree.specs.declared.op.Op.TheVariants.{Raise};
-ghost use Rattle.c_tree.specs.declared.tree.CAtom.TheVariants.{Int};
-ghost use Rattle.c_tree.specs.declared.tree.CArg.TheVariants.{Atom, Str};
-ghost use Rattle.plan_rules.specs.Representation.{truth_atom, rep_of, c_type_of, own_rep, constant_rep, constant_expr, condition, operation, raise_count, raise_type, local};
+ghost use Rattle.plan_rules.specs.Representation.{truth_atom, rep_of, c_type_of, own_rep, constant_rep, constant_expr, condition, operation, raise, raise_count, raise_type, local};
 
 use crate::emitter::Held;
-use built_table::{Primitive, Ty};
+use built_table::Ty;
 use c_tree::{CArg, CAtom, CCall, CExpr, CTy, Callee, Op, local_name_text};
-use core_tree::{Const, Node};
+use core_tree::Const;
 use plan_rules::Rep;
 use prim_table::ErrCode;
 use scheme_data::{List, OutOfMemory, Text, push_number};
@@ -39,37 +33,6 @@ pub fn c_type(rep: Rep) -> CTy
     }
 }
 
-pub fn param_types(p: Primitive) -> &'static [Ty]
-    ensures { result.now ≡ params_of p }
-{
-    match p {
-        Primitive::Add | Primitive::Less => &[Ty::Long, Ty::Long],
-        Primitive::Display => &[Ty::Obj],
-        Primitive::Newline => &[],
-    }
-}
-
-pub fn result_type(p: Primitive) -> Ty
-    ensures { result ≡ result_of p }
-{
-    match p {
-        Primitive::Add => Ty::Long,
-        Primitive::Less => Ty::Bool,
-        Primitive::Display | Primitive::Newline => Ty::Obj,
-    }
-}
-
-/// The types that a function wants of its arguments.
-pub fn object_types(alloc: Global, arguments: &[Node]) -> Result<List<Ty>, OutOfMemory>
-    ensures { IfOk result (λ types. types ≡ map (λ _. Obj) arguments.now) }
-{
-    let mut types = List::new(alloc);
-    for _argument in arguments {
-        types.push(Ty::Obj)?;
-    }
-    Ok(types)
-}
-
 /// The value of a local.
 pub fn local_expr(alloc: Global, x: u32) -> Result<CExpr, OutOfMemory>
     ensures { IfOk result (λ e. e ≡ CExpr.Atom (CAtom.Name (local_name x))) }
@@ -79,7 +42,7 @@ pub fn local_expr(alloc: Global, x: u32) -> Result<CExpr, OutOfMemory>
 
 // The call that raises an error with a text.
 fn raise(alloc: Global, error: ErrCode, text: Text) -> Result<CCall, OutOfMemory>
-    ensures { IfOk result (λ c. c ≡ operation Raise (Atom (Int (pos (number_of error))) ∷ Str text ∷ [])) }
+    ensures { IfOk result (λ c. c ≡ raise error text) }
 {
     let mut args = List::new(alloc);
     args.push(CArg::Atom(CAtom::Int(error.number() as i64)))?;
@@ -90,7 +53,7 @@ fn raise(alloc: Global, error: ErrCode, text: Text) -> Result<CCall, OutOfMemory
     })
 }
 
-/// The call that raises error 2, where so many arguments are wanted. A number past `i64` counts as want of memory.
+/// The call that raises the error of a number of arguments, where so many are wanted. A number past `i64` counts as want of memory.
 pub fn raise_count(alloc: Global, want: usize) -> Result<CCall, OutOfMemory>
     ensures { IfOk result (λ c. c ≡ raise_count want) }
 {
@@ -100,7 +63,7 @@ pub fn raise_count(alloc: Global, want: usize) -> Result<CCall, OutOfMemory>
     raise(alloc, ErrCode::ArgumentCount, text)
 }
 
-/// The call that raises error 1, where a type is wanted.
+/// The call that raises the error of a wrong type, where this one is wanted.
 pub fn raise_type(alloc: Global, ty: Ty) -> Result<CCall, OutOfMemory>
     ensures { IfOk result (λ c. c ≡ raise_type ty) }
 {

@@ -95,7 +95,7 @@ fn command_in(alloc: Global, words: &[Text]) -> Result<Option<Command>, OutOfMem
 fn has_graphic_only(name: &[u8]) -> bool
     ensures { result ≡ list_all is_graphic name.now }
 {
-    name.iter().all(|b| 33 <= *b && *b <= 126)
+    name.iter().all(|b| b'!' <= *b && *b <= b'~')
 }
 
 fn is_name(word: &Text) -> bool
@@ -186,20 +186,20 @@ pub fn request_in(alloc: Global, words: &[Text]) -> Result<Option<Request>, OutO
 fn has_spaces_only(line: &[u8]) -> bool
     ensures { result ≡ list_all (λ x. nat_eq x 32) line.now }
 {
-    line.iter().all(|b| *b == 32)
+    line.iter().all(|b| *b == b' ')
 }
 
 fn has_plain_only(line: &[u8]) -> bool
     ensures { result ≡ list_all is_plain line.now }
 {
-    line.iter().all(|b| 32 <= *b && *b <= 126)
+    line.iter().all(|b| b' ' <= *b && *b <= b'~')
 }
 
 fn begins_with_hash(line: &[u8]) -> bool
     ensures { result ≡ starts_hash line.now }
 {
     match line {
-        [first, ..] => *first == 35,
+        [first, ..] => *first == b'#',
         [] => false,
     }
 }

@@ -38,7 +38,7 @@ pub fn parts(alloc: Global, bytes: &[u8], at: u8) -> Result<TextList, OutOfMemor
 pub fn words(alloc: Global, line: &[u8]) -> Result<TextList, OutOfMemory>
     ensures { IfOk result (λ list. list ≡ words_of line.now) }
 {
-    let pieces = parts(alloc, line, 32)?;
+    let pieces = parts(alloc, line, b' ')?;
     let mut list = TextList::new(alloc);
     for piece in pieces.as_slice() {
         if !piece.as_bytes().is_empty() {

@@ -1,6 +1,6 @@
 -- The plain tree of a module, of which every definition speaks.
-use Rattle.std.specs.Prelude.{ℕ, suc, List, [], ◌∷◌, find, slice_get, length, nat_eq, Bool, Option, Some, None}
-use Rattle.std.specs.Cmp.Lexicographic.{pointwise}
+use Rattle.std.specs.Prelude.{ℕ, suc, List, [], ◌∷◌, find, slice_get, length, Bool, Option, Some, None}
+use Rattle.scheme_data.specs.Names.{is_same}
 use Rattle.built_table.specs.declared.primitives.Primitive.{Primitive as Builtin}
 use Rattle.built_table.specs.declared.primitives.Ty.{Ty}
 use Rattle.iface_text.specs.declared.interface.Row.{Row}
@@ -84,7 +84,7 @@ module_tree m = record { name = m.name; imports = m.imports; functions = functio
 -- Look-up -----------------------------------------------------------------------------------
 
 abbrev pub is_called : List ℕ → FunctionTree → Bool
-is_called name f = pointwise nat_eq f.name name
+is_called name f = is_same f.name name
 
 -- the function of a name
 abbrev pub function_named : List FunctionTree → List ℕ → Option FunctionTree

@@ -1,6 +1,6 @@
 -- What every later pass asks of a module.
 use Rattle.std.specs.Prelude.{◌≡◌, ℕ, List, [], ◌∷◌, map, length, Bool, true, false, not, ◌&&◌, IsTrue, Option, Some, None, nat_eq}
-use Rattle.std.specs.List.{list_all, list_any}
+use Rattle.std.specs.List.{list_all, list_any, AllByRecursion}
 use Rattle.scheme_data.specs.Fixnum.{IsFixnum}
 use Rattle.scheme_data.specs.Names.{is_same, are_distinct}
 use Rattle.scheme_data.specs.Symbols.{IsSymbol}
@@ -60,14 +60,12 @@ pub record IsFunction (m : ModuleTree) (f : FunctionTree) : Type 0 where
   pub body : IsBody m f.params f.body
 
 abbrev pub AreFunctions : ModuleTree → List FunctionTree → Type 0
-AreFunctions m [] = Unit {0}
-AreFunctions m (f ∷ fs) = IsFunction m f × AreFunctions m fs
+AreFunctions m fs = AllByRecursion (IsFunction m) fs
 
 -- Imports and uses --------------------------------------------------------------------------
 
 abbrev pub AreNames : List (List ℕ) → Type 0
-AreNames [] = Unit {0}
-AreNames (x ∷ xs) = IsSymbol x × AreNames xs
+AreNames names = AllByRecursion IsSymbol names
 
 abbrev pub has_some : List (List ℕ) → Bool
 has_some [] = false
@@ -80,8 +78,7 @@ pub record IsImport (i : ImportItem) : Type 0 where
   pub some : IsTrue (has_some i.names)
 
 abbrev pub AreImports : List ImportItem → Type 0
-AreImports [] = Unit {0}
-AreImports (i ∷ is) = IsImport i × AreImports is
+AreImports is = AllByRecursion IsImport is
 
 abbrev pub module_of : Use → List ℕ
 module_of (From m r) = m
@@ -104,8 +101,7 @@ pub record IsUse (m : ModuleTree) (u : Use) : Type 0 where
   pub imported : IsTrue (list_any (takes (module_of u) (row_of u).name) m.imports)
 
 abbrev pub AreUses : ModuleTree → List Use → Type 0
-AreUses m [] = Unit {0}
-AreUses m (u ∷ us) = IsUse m u × AreUses m us
+AreUses m us = AllByRecursion (IsUse m) us
 
 -- both are of one name of one module
 abbrev pub same_use : Use → Use → Bool

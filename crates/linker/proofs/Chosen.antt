@@ -6,7 +6,9 @@ use Rattle.std.proofs.lemmas.List.{append_assoc, map-append, map-set, length-set
 use Rattle.std.proofs.lemmas.Iterator.Adapters.{position_from-zero}
 use Rattle.std.specs.List.{position_from}
 use Rattle.core_tree.specs.Tree.{Callee}
-use Rattle.meaning.specs.Order.{is_marked, has_some, root_of, onto_chosen, chosen}
+use Rattle.std.specs.List.{cons_option}
+use Rattle.std.specs.Option.{is_some}
+use Rattle.meaning.specs.Order.{is_marked, root_of, chosen}
 use Rattle.meaning.specs.Program.{main_in}
 use Rattle.plan_rules.specs.Joined.{Part}
 use Rattle.c_tree.specs.Names.{function_name, is_function_name}
@@ -36,7 +38,7 @@ chosen_set {A} xs n x (m ∷ ns) absent = go (nat_eq n m) refl absent (λ h. cho
     go true e h rest = absurd (cc)
     go false e h rest =
         let other : nat_eq m n ≡ false = grind (arith, nat_tests) in
-        ap₂ (λ (o : Option A) (ys : List A). onto_chosen o ys) (slice_get_set xs n m x other) (rest h)
+        ap₂ (λ (o : Option A) (ys : List A). cons_option o ys) (slice_get_set xs n m x other) (rest h)
 
 -- Units -------------------------------------------------------------------------------------
 
@@ -50,7 +52,7 @@ taking_goes_on : (before now : List ObjectTree) (order left : List ℕ) (taken :
 taking_goes_on before now order left taken n o after at t = record {
   are = append_assoc taken (part_of o ∷ []) (map part_of (chosen (set now n after) left))
       ∙ (ap (λ (ps : List Part). taken ++ part_of o ∷ ps) (ap (map part_of) (chosen_set now n after left t.apart.0))
-      ∙ (ap (λ (found : Option ObjectTree). taken ++ map part_of (onto_chosen found (chosen now left))) (sym at) ∙ t.are));
+      ∙ (ap (λ (found : Option ObjectTree). taken ++ map part_of (cons_option found (chosen now left))) (sym at) ∙ t.are));
   apart = t.apart.1;
   below = subst (λ (size : ℕ). are_below size left ≡ true) (sym (length-set now n after)) (split (nat_lt n (length now)) (are_below (length now) left) t.below (λ a b. b));
 }
@@ -71,12 +73,12 @@ one_taken before order left units more unit now later n old new pushed is low at
 -- The main function -------------------------------------------------------------------------
 
 abbrev pub has_main : ObjectTree → Bool
-has_main o = has_some o.main
+has_main o = is_some o.main
 
 no_main_of : (o : ObjectTree) → has_main o ≡ false → o.main ≡ None
 no_main_of o none = go o.main none
   where
-    go : (main : Option (List ℕ)) → has_some main ≡ false → main ≡ None
+    go : (main : Option (List ℕ)) → is_some main ≡ false → main ≡ None
     go None h = refl
     go (Some name) h = absurd (cc)
 
@@ -116,13 +118,13 @@ main_chosen os root (n ∷ order) r name one at main there = go (nat_eq root n) 
     wanted : Option Callee
     wanted = Some (record { module_name = r.module_name; name = name; params = 1 })
 
-    first : (found : Option ObjectTree) → found ≡ Some r → main_of (onto_chosen found (chosen os order)) ≡ wanted
+    first : (found : Option ObjectTree) → found ≡ Some r → main_of (cons_option found (chosen os order)) ≡ wanted
     first None e = absurd (cc)
     first (Some o) e =
         let same : o ≡ r = cc in
         ap (λ (p : ObjectTree). main_in p.module_name p.main (main_of (chosen os order))) same ∙ ap (λ (m : Option (List ℕ)). main_in r.module_name m (main_of (chosen os order))) main
 
-    later : (found : Option ObjectTree) → ((o : ObjectTree) → found ≡ Some o → has_main o ≡ false) → main_of (chosen os order) ≡ wanted → main_of (onto_chosen found (chosen os order)) ≡ wanted
+    later : (found : Option ObjectTree) → ((o : ObjectTree) → found ≡ Some o → has_main o ≡ false) → main_of (chosen os order) ≡ wanted → main_of (cons_option found (chosen os order)) ≡ wanted
     later None none rest = rest
     later (Some o) none rest = ap (λ (m : Option (List ℕ)). main_in o.module_name m (main_of (chosen os order))) (no_main_of o (none o refl)) ∙ rest
 
@@ -132,23 +134,23 @@ main_chosen os root (n ∷ order) r name one at main there = go (nat_eq root n) 
         first (slice_get os n) (subst (λ (m : ℕ). slice_get os m ≡ Some r) same at)
     go false e h rest =
         let other : nat_eq n root ≡ false = grind (arith, nat_tests) in
-        later (slice_get os n) (λ o k. one_counted os root n r o (counted (length (filter has_main os)) one) at (ap has_some main) k other) (rest h)
+        later (slice_get os n) (λ o k. one_counted os root n r o (counted (length (filter has_main os)) one) at (ap is_some main) k other) (rest h)
 
 -- The search for it -------------------------------------------------------------------------
 
 -- one of those from a place on has a main function, and the first that has one is the root
 pub record Finding (os : List ObjectTree) (place : ℕ) (left : List ObjectTree) : Type 0 where
-  pub root : position_from has_some place (map (λ o. o.main) left) ≡ root_of (map (λ o. o.main) os)
+  pub root : position_from is_some place (map (λ o. o.main) left) ≡ root_of (map (λ o. o.main) os)
   pub one : length (filter has_main left) ≡ 1
   pub writable : AllAre CanBeWritten left
 
 pub finding_starts : (os : List ObjectTree) → has_one_main os ≡ true → AllAre CanBeWritten os → Finding os 0 os
-finding_starts os one writable = record { root = sym (position_from-zero has_some (map (λ o. o.main) os)); one = counted (length (filter has_main os)) one; writable = writable }
+finding_starts os one writable = record { root = sym (position_from-zero is_some (map (λ o. o.main) os)); one = counted (length (filter has_main os)) one; writable = writable }
 
 pub main_found : (os left : List ObjectTree) (place : ℕ) (o : ObjectTree) (name function : List ℕ) → slice_get os place ≡ Some o → o.main ≡ Some name → function ≡ function_name o.module_name name
     → (0 < length o.module_name → 0 < length name → IsTrue (is_function_name function)) → Finding os place (o ∷ left) → IsMain os place function
 main_found os left place o name function at main is named f = record {
-  is_root = sym f.root ∙ ap (λ (m : Option (List ℕ)). cond (has_some m) (Some place) (position_from has_some (place + 1) (map (λ p. p.main) left))) main;
+  is_root = sym f.root ∙ ap (λ (m : Option (List ℕ)). cond (is_some m) (Some place) (position_from is_some (place + 1) (map (λ p. p.main) left))) main;
   object = o;
   at = at;
   name = name;

@@ -13,7 +13,8 @@ use Rattle.core_tree.specs.declared.tree.ImportItem.{ImportItem}
 use Rattle.core_tree.specs.declared.tree.Use.{Use}
 use Rattle.core_tree.specs.WellFormed.{module_of, row_of}
 use Rattle.iface_text.specs.declared.interface.Row.{Row}
-use Rattle.meaning.specs.Order.{onto_numbers, numbers_of, imports_of}
+use Rattle.std.specs.List.{cons_option}
+use Rattle.meaning.specs.Order.{numbers_of, imports_of}
 use Rattle.object_text.specs.Format.{ObjectTree}
 use Rattle.linker.specs.Links.{same_type, same_types, names_of, exported_row, current_row, imports_in}
 use Rattle.linker.specs.Modules.{row_names, tree_of, trees}
@@ -104,7 +105,7 @@ numbers_below : (names : List (List ℕ)) (is : List ImportItem) → are_below (
 numbers_below names [] = refl
 numbers_below names (i ∷ is) = go (place_of i.module_name names) refl (numbers_below names is)
   where
-    go : (o : Option ℕ) → place_of i.module_name names ≡ o → are_below (length names) (numbers_of names is) ≡ true → are_below (length names) (onto_numbers o (numbers_of names is)) ≡ true
+    go : (o : Option ℕ) → place_of i.module_name names ≡ o → are_below (length names) (numbers_of names is) ≡ true → are_below (length names) (cons_option o (numbers_of names is)) ≡ true
     go None e rest = rest
     go (Some n) e rest = ap₂ (λ (a b : Bool). a && b) (place_below i.module_name names n e) rest
 

@@ -11,7 +11,8 @@ use Rattle.c_tree.specs.Functions.{item_of, items_of}
 use Rattle.c_tree.specs.Names.{is_function_name, is_local_name, maker_name, initializer_name}
 use Rattle.c_tree.specs.Pieces.{pieces}
 use Rattle.c_tree.specs.Spelling.{NamedItem, NamedItems, NamedCode}
-use Rattle.meaning.specs.Order.{onto_chosen, chosen}
+use Rattle.std.specs.List.{cons_option}
+use Rattle.meaning.specs.Order.{chosen}
 use Rattle.object_text.specs.Format.{ObjectTree, CanBeWritten}
 use Rattle.object_text.specs.Parts.{AllAre}
 use Rattle.plan_rules.specs.Joined.{Part, call_alone, calls_alone, call_main, main_code, main_function, joined_with}
@@ -69,7 +70,7 @@ pub parts_named : (os : List ObjectTree) (ns : List ℕ) → AllAre CanBeWritten
 parts_named os [] are = tt
 parts_named os (n ∷ ns) are = go (slice_get os n) (λ o e. writable_at os n o are e) (parts_named os ns are)
   where
-    go : (found : Option ObjectTree) → ((o : ObjectTree) → found ≡ Some o → CanBeWritten o) → AllAre NamedPart (map part_of (chosen os ns)) → AllAre NamedPart (map part_of (onto_chosen found (chosen os ns)))
+    go : (found : Option ObjectTree) → ((o : ObjectTree) → found ≡ Some o → CanBeWritten o) → AllAre NamedPart (map part_of (chosen os ns)) → AllAre NamedPart (map part_of (cons_option found (chosen os ns)))
     go None all rest = rest
     go (Some o) all rest = let w = all o refl in (record { module_name = w.header.module_name; items = w.named }, rest)
 

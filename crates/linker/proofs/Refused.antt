@@ -8,10 +8,11 @@ use Rattle.scheme_data.proofs.DistinctNames.{twice, added as added_name}
 use Rattle.name_table.specs.Names.{has_name}
 use Rattle.object_text.specs.Format.{ObjectTree}
 use Rattle.linker.specs.declared.linking.LinkErr.{LinkErr}
-use Rattle.linker.specs.Links.{or_else, unless, names_of, are_modules, missing_modules, missing_names, are_current, has_one_main, link_refusal}
+use Rattle.std.specs.Option.{option_or}
+use Rattle.linker.specs.Links.{unless, names_of, are_modules, missing_modules, missing_names, are_current, has_one_main, link_refusal}
 use Rattle.linker.specs.Modules.{trees}
 
-later_none : (first later : Option LinkErr) → or_else first later ≡ None → later ≡ None
+later_none : (first later : Option LinkErr) → option_or first later ≡ None → later ≡ None
 later_none None later e = e
 later_none (Some refused) later e = absurd (cc)
 
@@ -23,9 +24,9 @@ pub one_main : (os : List ObjectTree) → link_refusal os ≡ None → has_one_m
 one_main os e =
     is_accepted (has_one_main os)
     (later_none (unless (are_current os)) (unless (has_one_main os))
-    (later_none (missing_names os) (or_else (unless (are_current os)) (unless (has_one_main os)))
-    (later_none (missing_modules os) (or_else (missing_names os) (or_else (unless (are_current os)) (unless (has_one_main os))))
-    (later_none (unless (are_modules os)) (or_else (missing_modules os) (or_else (missing_names os) (or_else (unless (are_current os)) (unless (has_one_main os))))) e))))
+    (later_none (missing_names os) (option_or (unless (are_current os)) (unless (has_one_main os)))
+    (later_none (missing_modules os) (option_or (missing_names os) (option_or (unless (are_current os)) (unless (has_one_main os))))
+    (later_none (unless (are_modules os)) (option_or (missing_modules os) (option_or (missing_names os) (option_or (unless (are_current os)) (unless (has_one_main os))))) e))))
 
 -- The table of the modules' names -----------------------------------------------------------
 

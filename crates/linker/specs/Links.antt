@@ -1,6 +1,8 @@
 -- Which objects are linked, and to what; which are refused, and for what.
 use Rattle.std.specs.Prelude.{◌≡◌, ◌⊎◌, ℕ, suc, List, [], ◌∷◌, map, find, filter, length, nat_eq, nat_lt, Bool, true, false, not, ◌&&◌, if◌then◌else◌, Option, Some, None, Result, Ok, Err}
-use Rattle.std.specs.List.{list_all}
+use Rattle.std.specs.List.{list_all, AllZip}
+use Rattle.std.specs.Option.{option_or}
+use Rattle.std.specs.Cmp.Lexicographic.{pointwise}
 use Rattle.scheme_data.specs.Names.{are_distinct, is_same}
 use Rattle.built_table.specs.declared.primitives.Ty.{Ty}
 use Rattle.built_table.specs.declared.primitives.Ty.TheVariants.{Obj, Long, Bool as Truth}
@@ -12,7 +14,8 @@ use Rattle.core_tree.specs.declared.tree.ImportItem.{ImportItem}
 use Rattle.core_tree.specs.declared.tree.Use.{Use}
 use Rattle.core_tree.specs.Tree.{Callee}
 use Rattle.core_tree.specs.WellFormed.{module_of, row_of}
-use Rattle.meaning.specs.Order.{Imports, imports_of, IsOrder, has_some, root_of, chosen}
+use Rattle.std.specs.Option.{is_some}
+use Rattle.meaning.specs.Order.{Imports, imports_of, IsOrder, root_of, chosen}
 use Rattle.meaning.specs.Program.{main_in}
 use Rattle.c_tree.specs.Spelling.{CText}
 use Rattle.plan_rules.specs.Joined.{Part, joined}
@@ -43,9 +46,7 @@ same_type Truth Truth = true
 same_type _ _ = false
 
 abbrev pub same_types : List Ty → List Ty → Bool
-same_types [] [] = true
-same_types (t ∷ ts) (u ∷ us) = same_type t u && same_types ts us
-same_types _ _ = false
+same_types ts us = pointwise same_type ts us
 
 -- one signature
 abbrev pub same_kind : RowKind → RowKind → Bool
@@ -61,14 +62,10 @@ are_current os = list_all (λ o. list_all (λ u. agrees (row_of u) (current_row 
 
 -- Refusals ----------------------------------------------------------------------------------
 
-abbrev pub or_else : Option LinkErr → Option LinkErr → Option LinkErr
-or_else None later = later
-or_else (Some e) later = Some e
-
 -- the first object that is refused decides; objects are numbered from 1
 abbrev pub first_refused : (ℕ → ObjectTree → Option LinkErr) → ℕ → List ObjectTree → Option LinkErr
 first_refused refusal n [] = None
-first_refused refusal n (o ∷ os) = or_else (refusal n o) (first_refused refusal (suc n) os)
+first_refused refusal n (o ∷ os) = option_or (refusal n o) (first_refused refusal (suc n) os)
 
 -- the first import item whose module no object has, where these are the modules' names
 abbrev pub missing_module : List (List ℕ) → ℕ → List ImportItem → Option LinkErr
@@ -78,7 +75,7 @@ missing_module names n (i ∷ is) = if has_name names i.module_name then missing
 -- the first use whose name its module doesn't export now
 abbrev pub missing_name : List ObjectTree → ℕ → List Use → Option LinkErr
 missing_name os n [] = None
-missing_name os n (u ∷ us) = if has_some (current_row os u) then missing_name os n us else Some (MissingName n (module_of u) (row_of u).name)
+missing_name os n (u ∷ us) = if is_some (current_row os u) then missing_name os n us else Some (MissingName n (module_of u) (row_of u).name)
 
 abbrev pub missing_modules : List ObjectTree → Option LinkErr
 missing_modules os = first_refused (λ n o. missing_module (names_of os) n o.imports) 1 os
@@ -95,7 +92,7 @@ abbrev pub are_modules : List ObjectTree → Bool
 are_modules os = not (nat_lt most_modules (length os)) && are_distinct (names_of os)
 
 abbrev pub has_one_main : List ObjectTree → Bool
-has_one_main os = nat_eq (length (filter (λ o. has_some o.main) os)) 1
+has_one_main os = nat_eq (length (filter (λ o. is_some o.main) os)) 1
 
 abbrev pub unless : Bool → Option LinkErr
 unless true = None
@@ -103,15 +100,13 @@ unless false = Some NotBuilt
 
 -- why objects aren't linked, the first cause in this order: they are too many or have a name twice; a module is missing; a name is missing; a use is of another signature; none has a main function, or more than one has
 abbrev pub link_refusal : List ObjectTree → Option LinkErr
-link_refusal os = or_else (unless (are_modules os)) (or_else (missing_modules os) (or_else (missing_names os) (or_else (unless (are_current os)) (unless (has_one_main os)))))
+link_refusal os = option_or (unless (are_modules os)) (option_or (missing_modules os) (option_or (missing_names os) (option_or (unless (are_current os)) (unless (has_one_main os)))))
 
 -- Links -------------------------------------------------------------------------------------
 
 -- the texts are those of these objects
 abbrev pub AreObjectTexts : List (List ℕ) → List ObjectTree → Type 0
-AreObjectTexts [] [] = Unit {0}
-AreObjectTexts (text ∷ texts) (o ∷ os) = ObjectText text o × AreObjectTexts texts os
-AreObjectTexts _ _ = ⊥
+AreObjectTexts texts os = AllZip ObjectText texts os
 
 -- and of no others
 pub record AreObjects (texts : List (List ℕ)) (os : List ObjectTree) : Type 0 where

@@ -1,5 +1,6 @@
 -- Objects that are read and the units that are joined, seen as plain trees, and what is known of them on the way.
 use Rattle.std.specs.Prelude.{◌≡◌, ℕ, List, [], ◌∷◌, map, slice_get, false, IsTrue, Some, None, Result, Ok, Err}
+use Rattle.std.specs.List.{AllZip}
 use Rattle.scheme_data.specs.Symbols.{IsSymbol}
 use Rattle.iface_text.specs.declared.interface.Row.{Row}
 use Rattle.c_tree.specs.Functions.{items_of}
@@ -32,9 +33,7 @@ pub record IsOnlyObject (text : List ℕ) (o : ObjectTree) : Type 0 where
   pub only : (other : ObjectTree) → ObjectText text other → other ≡ o
 
 abbrev pub AreOnlyObjects : List (List ℕ) → List ObjectTree → Type 0
-AreOnlyObjects [] [] = Unit {0}
-AreOnlyObjects (text ∷ texts) (o ∷ os) = IsOnlyObject text o × AreOnlyObjects texts os
-AreOnlyObjects _ _ = ⊥
+AreOnlyObjects texts os = AllZip IsOnlyObject texts os
 
 -- The choice --------------------------------------------------------------------------------
 

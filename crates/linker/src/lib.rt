@@ -10,6 +10,3 @@ mod reading;
 mod refusals;
 
 pub use linking::{LinkErr, link};
-
-#[cfg(test)]
-mod tests;

@@ -1,7 +1,8 @@
 -- The order in which modules are initialised: depth first from the module that has `main`. A visit marks the module, visits its imports in clause order but for those that are marked, and then adds the module.
 -- Modules have numbers, their places in a list; those that are never visited take no part.
-use Rattle.std.specs.Prelude.{◌≡◌, ℕ, List, [], ◌∷◌, ◌++◌, map, nat_eq, slice_get, position, Bool, true, false, Option, Some, None}
-use Rattle.std.specs.List.{list_any}
+use Rattle.std.specs.Prelude.{◌≡◌, ℕ, List, [], ◌∷◌, ◌++◌, map, nat_eq, slice_get, position, unwrap_or, Bool, true, false, Option}
+use Rattle.std.specs.List.{list_any, filter_map}
+use Rattle.std.specs.Option.{is_some}
 use Rattle.name_table.specs.Names.{place_of}
 use Rattle.core_tree.specs.declared.tree.ImportItem.{ImportItem}
 
@@ -9,24 +10,15 @@ use Rattle.core_tree.specs.declared.tree.ImportItem.{ImportItem}
 abbrev pub Imports : Type 0
 Imports = List (List ℕ)
 
-abbrev pub onto_numbers : Option ℕ → List ℕ → List ℕ
-onto_numbers None ns = ns
-onto_numbers (Some n) ns = n ∷ ns
-
 -- the numbers of the imported modules, where these are the names of all
 abbrev pub numbers_of : List (List ℕ) → List ImportItem → List ℕ
-numbers_of names [] = []
-numbers_of names (i ∷ is) = onto_numbers (place_of i.module_name names) (numbers_of names is)
+numbers_of names is = filter_map (λ i. place_of i.module_name names) is
 
 abbrev pub imports_of : List (List ℕ) → List (List ImportItem) → Imports
 imports_of names items = map (numbers_of names) items
 
-abbrev pub or_none : Option (List ℕ) → List ℕ
-or_none None = []
-or_none (Some ns) = ns
-
 abbrev pub imported : Imports → ℕ → List ℕ
-imported g n = or_none (slice_get g n)
+imported g n = unwrap_or (slice_get g n) []
 
 abbrev pub is_marked : List ℕ → ℕ → Bool
 is_marked marked n = list_any (nat_eq n) marked
@@ -43,19 +35,10 @@ pub record IsOrder (g : Imports) (root : ℕ) (order : List ℕ) : Type 0 where
   pub marked : List ℕ
   pub visits : Visits g [] (root ∷ []) marked order
 
-abbrev pub has_some : {A : Type 0} → Option A → Bool
-has_some None = false
-has_some (Some x) = true
-
 -- the number of the first module that has a main function
 abbrev pub root_of : List (Option (List ℕ)) → Option ℕ
-root_of mains = position has_some mains
-
-abbrev pub onto_chosen : {A : Type 0} → Option A → List A → List A
-onto_chosen None xs = xs
-onto_chosen (Some x) xs = x ∷ xs
+root_of mains = position is_some mains
 
 -- the modules of these numbers
 abbrev pub chosen : {A : Type 0} → List A → List ℕ → List A
-chosen xs [] = []
-chosen xs (n ∷ ns) = onto_chosen (slice_get xs n) (chosen xs ns)
+chosen xs ns = filter_map (slice_get xs) ns

@@ -1,12 +1,11 @@
 -- The head of a module, `(module NAME clause ...)` (the Bigloo manual, "Modules"). A clause is `(main f)`, at most once, `(import (name ... MODULE) ...)` or `(export (f x ...) ...)`.
 use Rattle.std.specs.Prelude.{ℕ, List, [], ◌∷◌, ◌++◌, map, codes, nat_eq, length, Bool, false, not, ◌&&◌, ◌||◌, if◌then◌else◌, Option, Some, None}
 use Rattle.std.specs.List.{list_any}
-use Rattle.std.specs.Cmp.Lexicographic.{pointwise}
-use Rattle.scheme_data.specs.Names.{are_distinct}
+use Rattle.scheme_data.specs.Names.{is_same, are_distinct}
 use Rattle.scheme_data.specs.Data.{Plain, Symbol, Listed, Plains, none, more}
 
 abbrev pub is_word : List ℕ → List ℕ → Bool
-is_word name word = pointwise nat_eq name word
+is_word name word = is_same name word
 
 -- the name of a symbol
 abbrev pub symbol_of : Plain → Option (List ℕ)

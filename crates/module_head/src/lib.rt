@@ -8,6 +8,3 @@ mod shapes;
 
 pub use head::{Export, Head, Import, read_head};
 pub use shapes::{is_symbol, name_has_type, name_is, parts, symbol, untyped_name};
-
-#[cfg(test)]
-mod tests;

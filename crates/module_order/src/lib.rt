@@ -5,6 +5,3 @@ mod order;
 mod walk;
 
 pub use order::initialization_order;
-
-#[cfg(test)]
-mod tests;

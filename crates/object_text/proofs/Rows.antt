@@ -1,6 +1,9 @@
 -- The line of a row.
-use Rattle.std.proofs.Common.{◌≡◌, ℕ, zero, suc, ◌*◌, List, [], ◌∷◌, ◌++◌, length, replicate, refl, ap, sym, ◌∙◌, subst, append_assoc, arith}
+use Rattle.std.proofs.Common.{◌≡◌, ℕ, zero, suc, ◌*◌, List, [], ◌∷◌, ◌++◌, length, replicate, Bool, true, false, ◌&&◌, Result, Ok, Err, Option, Some, None, IfOk, IfSome, refl, ap, sym, ◌∙◌, subst, append_assoc, arith}
 use Rattle.std.specs.Prelude.{codes}
+use Rattle.std.specs.List.{list_all}
+use Rattle.std.proofs.lemmas.Bool.{and_parts}
+use Rattle.std.proofs.lemmas.List.Folds.{list_all-append}
 use Rattle.std.proofs.lemmas.List.{append_cancel_left, append_cancel_right}
 use Rattle.scheme_data.specs.Symbols.{is_symbol_byte, IsSymbol}
 use Rattle.built_table.specs.declared.primitives.Ty.{Ty}
@@ -10,9 +13,9 @@ use Rattle.iface_text.specs.declared.interface.RowKind.{RowKind}
 use Rattle.iface_text.specs.declared.interface.RowKind.TheVariants.{Fun}
 use Rattle.iface_text.specs.Format.{more_types, types_text, kind_text, row_line, AreUntyped, IsUntyped}
 use Rattle.iface_text.proofs.Bytes.{passes_other, lacks_append, cut_once}
-use Rattle.iface_text.specs.Lines.{Lacks, untyped_row, NoRow}
-use Rattle.object_text.specs.Header.{row_text, IsUntypedRow}
-use Rattle.object_text.specs.Parts.{NoFirst, Anything}
+use Rattle.iface_text.specs.Lines.{other_than, Lacks, untyped_row, NoRow}
+use Rattle.object_text.specs.Header.{row_text, export_text, IsUntypedRow}
+use Rattle.object_text.specs.Parts.{IsFirst, NoFirst, Anything}
 use Rattle.object_text.proofs.Cuts.{named_once}
 use Rattle.object_text.proofs.Runs.{Once}
 
@@ -86,3 +89,21 @@ pub no_row : (bytes before after : List ℕ) → bytes ≡ before ++ 10 ∷ afte
 no_row bytes before after e lacks none r rest h =
     let s = cut_once 10 before after (row_line r) rest lacks (row_lacks r h.is_part) (sym e ∙ line_of bytes rest r h.are) in
     none r.name (params_in r.kind) h.is_part.name (s.before ∙ ap row_line (untyped_is r h.is_part))
+
+with_line_end : (line rest : List ℕ) → Lacks 10 (line ++ 10 ∷ rest) → ⊥
+with_line_end line rest h =
+    let both : (list_all (other_than 10) line && list_all (other_than 10) (10 ∷ rest)) ≡ true = sym (list_all-append (other_than 10) line (10 ∷ rest)) ∙ h in
+    let q : false ≡ true = (and_parts (list_all (other_than 10) line) (list_all (other_than 10) (10 ∷ rest)) both).1 in
+    absurd (cc)
+
+-- without a line's end there is no row's line
+pub no_line_end : (bytes : List ℕ) → Lacks 10 bytes → NoFirst row_text IsUntypedRow Anything bytes
+no_line_end bytes h part rest f =
+    with_line_end (row_line part) rest (subst (λ (bs : List ℕ). Lacks 10 bs) (f.are ∙ append_assoc (row_line part) (10 ∷ []) rest) h)
+
+-- the line of an export is the word and a row's line
+pub export_first : {F E : Type 0} (part : F → Row) (rest : F → List ℕ) (bytes after : List ℕ) (r : Result (Option F) E) → bytes ≡ codes "export " ++ after
+    → IfOk r (λ o. IfSome o (λ f. IsFirst row_text IsUntypedRow Anything after (part f) (rest f))) → IfOk r (λ o. IfSome o (λ f. IsFirst export_text IsUntypedRow Anything bytes (part f) (rest f)))
+export_first part rest bytes after (Ok None) e h = tt
+export_first part rest bytes after (Ok (Some f)) e h = record { are = e ∙ ap (λ (bs : List ℕ). codes "export " ++ bs) h.are; is_part = h.is_part; ends = tt }
+export_first part rest bytes after (Err x) e h = tt

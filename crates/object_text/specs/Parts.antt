@@ -1,5 +1,6 @@
 -- Parts of a text that stand one after another: what each is spelled, which are right, and what may follow one.
 use Rattle.std.specs.Prelude.{◌≡◌, ℕ, List, [], ◌∷◌, ◌++◌}
+use Rattle.std.specs.List.{AllByRecursion}
 
 -- the texts of parts, one after another
 abbrev pub texts : {A : Type 0} → (A → List ℕ) → List A → List ℕ
@@ -7,8 +8,7 @@ texts text [] = []
 texts text (a ∷ as') = text a ++ texts text as'
 
 abbrev pub AllAre : {A : Type 0} → (A → Type 0) → List A → Type 0
-AllAre Is [] = Unit {0}
-AllAre Is (a ∷ as') = Is a × AllAre Is as'
+AllAre Is parts = AllByRecursion Is parts
 
 -- the bytes begin with this part
 pub record IsFirst {A : Type 0} (text : A → List ℕ) (Is : A → Type 0) (Ends : List ℕ → Type 0) (bytes : List ℕ) (part : A) (rest : List ℕ) : Type 0 where

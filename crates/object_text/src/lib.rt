@@ -8,6 +8,3 @@ mod object;
 mod parts;
 
 pub use object::{Object, ObjectErr, read_object, write_object};
-
-#[cfg(test)]
-mod tests;

@@ -1,6 +1,9 @@
 -- Which representation a value has, and the statements that change it (after storage use analysis, Serrano and Feeley, ICFP 1996).
-use Rattle.std.specs.Prelude.{ℕ, List, [], ◌∷◌, ℤ, pos, Bool, true, false, Option, Some, None, if◌then◌else◌}
+use Rattle.std.specs.Prelude.{ℕ, List, [], ◌∷◌, pos, Bool, true, false, Option, Some, None, if◌then◌else◌}
 use Rattle.scheme_data.specs.Decimal.{decimal_text}
+use Rattle.prim_table.specs.Errors.{number_of}
+use Rattle.prim_table.specs.declared.errors.ErrCode.{ErrCode}
+use Rattle.prim_table.specs.declared.errors.ErrCode.TheVariants.{WrongType, ArgumentCount}
 use Rattle.built_table.specs.declared.primitives.Ty.{Ty}
 use Rattle.built_table.specs.declared.primitives.Ty.TheVariants as ty
 use Rattle.built_table.specs.Table.{result_of, type_name}
@@ -21,6 +24,7 @@ use Rattle.c_tree.specs.declared.tree.Callee.TheVariants as callee
 use Rattle.c_tree.specs.declared.tree.CCall.{CCall}
 use Rattle.c_tree.specs.declared.tree.CExpr.{CExpr}
 use Rattle.c_tree.specs.declared.tree.CExpr.TheVariants as expr
+use Rattle.c_meaning.specs.Operations.{truth_number}
 use Rattle.plan_rules.specs.declared.rep.Rep.{Rep}
 use Rattle.plan_rules.specs.declared.rep.Rep.TheVariants.{Obj, Long, Bool as Truth_rep}
 
@@ -73,13 +77,17 @@ has_of scope (Primitive p ts) wanted = rep_of (result_of p)
 abbrev pub operation : Op → List CArg → CCall
 operation op args = record { callee = callee.Op op; args = args }
 
--- `bgl_raise(2, "N")`, where N is the number of arguments that is wanted
-abbrev pub raise_count : ℕ → CCall
-raise_count n = operation Raise (arg.Atom (atom.Int (pos 2)) ∷ arg.Str (decimal_text n) ∷ [])
+-- `bgl_raise(N, "TEXT")`, where N is the error's number
+abbrev pub raise : ErrCode → List ℕ → CCall
+raise error text = operation Raise (arg.Atom (atom.Int (pos (number_of error))) ∷ arg.Str text ∷ [])
 
--- `bgl_raise(1, "T")`, where T is the type that is wanted
+-- its text is the number of arguments that is wanted
+abbrev pub raise_count : ℕ → CCall
+raise_count n = raise ArgumentCount (decimal_text n)
+
+-- its text is the type that is wanted
 abbrev pub raise_type : Ty → CCall
-raise_type t = operation Raise (arg.Atom (atom.Int (pos 1)) ∷ arg.Str (type_name t) ∷ [])
+raise_type t = raise WrongType (type_name t)
 
 abbrev pub call_of : List ℕ → List CArg → CCall
 call_of name args = record { callee = callee.Fun name; args = args }
@@ -90,10 +98,6 @@ local x = arg.Atom (atom.Name x)
 abbrev pub truth_atom : Bool → CAtom
 truth_atom true = atom.True
 truth_atom false = atom.False
-
-abbrev pub truth_number : Bool → ℤ
-truth_number true = pos 1
-truth_number false = pos 0
 
 -- a constant in a representation that it may have
 abbrev pub constant_expr : Const → Rep → Option CExpr
@@ -110,7 +114,7 @@ condition Obj y = expr.Call (operation Truth (local y ∷ []))
 condition Long y = expr.Atom (atom.Int (pos 1))
 condition Truth_rep y = expr.Atom (atom.Name y)
 
--- what makes an argument's value fit its parameter: nothing, a new local with the value of an operation, or the raising of error 1, after which a new local has the number 0.
+-- what makes an argument's value fit its parameter: nothing, a new local with the value of an operation, or the raising of an error, after which a new local has the number 0.
 -- No operation of today's makes a truth value of a word
 pub data Step : Type 0 where
   Keep : Step
@@ -118,7 +122,7 @@ pub data Step : Type 0 where
   Refuse : Step
   Unbuilt : Step
 
--- the test of a type and the coercion to its representation are one statement: a box, the unboxing that raises error 1, or the raising
+-- the test of a type and the coercion to its representation are one statement: a box, the unboxing that raises the error of a wrong type, or the raising
 abbrev pub step : Ty → Rep → Step
 step ty.Obj Obj = Keep
 step ty.Obj Long = Make BoxLong

@@ -41,16 +41,16 @@ Fresh x live = In x live → ⊥
 -- Statements --------------------------------------------------------------------------------
 
 -- where a value goes
-pub data Place : Type 0 where
-  into : Name → Place
-  back : Place
+pub data Target : Type 0 where
+  into : Name → Target
+  back : Target
 
-abbrev pub deliver : Place → CExpr → Code → Code
+abbrev pub deliver : Target → CExpr → Code → Code
 deliver (into x) e rest = assign x e rest
 deliver back e rest = return e rest
 
 abbrev pub Statements : Type 1
-Statements = Place → Code → Code → Type 0
+Statements = Target → Code → Code → Type 0
 
 -- The variables of the function in which the statements stand.
 module _ (vars : List CVar) where
@@ -59,25 +59,25 @@ module _ (vars : List CVar) where
   IsLocal y t = IsTrue (is_typed t (variable_named vars y))
 
   -- a value that comes as a number of a C type, and is wanted as a word
-  pub record Boxed (o : Op) (t : CTy) (given : Statements) (live : List Name) (place : Place) (code rest : Code) : Type 0 where
+  pub record Boxed (o : Op) (t : CTy) (given : Statements) (live : List Name) (target : Target) (code rest : Code) : Type 0 where
     pub temporary : Name
     pub middle : Code
     pub fresh : Fresh temporary live
     pub is_local : IsLocal temporary t
     pub value : given (into temporary) code middle
-    pub box : middle ≡ deliver place (expr.Call (operation o (local temporary ∷ []))) rest
+    pub box : middle ≡ deliver target (expr.Call (operation o (local temporary ∷ []))) rest
 
   -- a value that comes in one representation, delivered in another
-  abbrev pub Coerced : Rep → Rep → Statements → List Name → Place → Code → Code → Type 0
-  Coerced Obj Obj given live place code rest = given place code rest
-  Coerced Obj Long given live place code rest = ⊥
-  Coerced Obj Truth_rep given live place code rest = ⊥
-  Coerced Long Obj given live place code rest = Boxed BoxLong c_ty.Long given live place code rest
-  Coerced Long Long given live place code rest = given place code rest
-  Coerced Long Truth_rep given live place code rest = ⊥
-  Coerced Truth_rep Obj given live place code rest = Boxed BoxBool c_ty.Int given live place code rest
-  Coerced Truth_rep Long given live place code rest = ⊥
-  Coerced Truth_rep Truth_rep given live place code rest = given place code rest
+  abbrev pub Coerced : Rep → Rep → Statements → List Name → Target → Code → Code → Type 0
+  Coerced Obj Obj given live target code rest = given target code rest
+  Coerced Obj Long given live target code rest = ⊥
+  Coerced Obj Truth_rep given live target code rest = ⊥
+  Coerced Long Obj given live target code rest = Boxed BoxLong c_ty.Long given live target code rest
+  Coerced Long Long given live target code rest = given target code rest
+  Coerced Long Truth_rep given live target code rest = ⊥
+  Coerced Truth_rep Obj given live target code rest = Boxed BoxBool c_ty.Int given live target code rest
+  Coerced Truth_rep Long given live target code rest = ⊥
+  Coerced Truth_rep Truth_rep given live target code rest = given target code rest
 
   -- one argument is made to fit: the name of its value, and what stays live
   pub record Made (o : Op) (live : List Name) (temporary : Name) (t : CTy) (code : Code) (made : Name) (rest : Code) : Type 0 where
@@ -150,7 +150,7 @@ module _ (vars : List CVar) where
     pub taken : one first
     pub else_taken : other second
 
-  -- arguments whose number is wrong are evaluated, and then error 2 is raised
+  -- arguments whose number is wrong are evaluated, and then the error of their number is raised
   pub record Miscounted (arguments : List Name → Code → Code → Type 0) (want : ℕ) (code rest : Code) : Type 0 where
     pub temporaries : List Name
     pub middle : Code
@@ -178,19 +178,19 @@ c_name_of c = function_name c.module_name c.name
 
 -- The module, the variables in scope, and the locals of the function in which the statements stand.
 module _ (m : ModuleTree) (scope : Scope) (vars : List CVar) where
-  -- a variable's value goes to a place in its own representation
+  -- a variable's value goes to a target in its own representation
   abbrev pub TrVariable : Option Slot → Rep → Statements
-  TrVariable None h place code rest = ⊥
-  TrVariable (Some (PlainAt r y)) h place code rest = (h ≡ r) × (code ≡ deliver place (expr.Atom (atom.Name y)) rest)
+  TrVariable None h target code rest = ⊥
+  TrVariable (Some (PlainAt r y)) h target code rest = (h ≡ r) × (code ≡ deliver target (expr.Atom (atom.Name y)) rest)
 
   abbrev pub TrVariableUnused : Option Slot → Code → Code → Type 0
   TrVariableUnused None code rest = ⊥
   TrVariableUnused (Some slot) code rest = code ≡ rest
 
-  -- a constant goes to a place in a representation that it may have
+  -- a constant goes to a target in a representation that it may have
   abbrev pub TrConstant : Option CExpr → Statements
-  TrConstant None place code rest = ⊥
-  TrConstant (Some e) place code rest = code ≡ deliver place e rest
+  TrConstant None target code rest = ⊥
+  TrConstant (Some e) target code rest = code ≡ deliver target e rest
 
   -- a call of a function, where the number of arguments is right or not; `finish` does the call and what comes after
   abbrev pub TrCounted : Bool → Callee → (List Name → Code → Code → Type 0) → Trees → List Name → (CCall → Code) → Code → Code → Type 0
@@ -202,29 +202,29 @@ module _ (m : ModuleTree) (scope : Scope) (vars : List CVar) where
   TrCall (Some c) arguments ns live finish code rest = TrCounted (is_counted c ns) c arguments ns live finish code rest
 
   unfoldable mutual
-    -- the node's value, in a representation, goes to a place
+    -- the node's value, in a representation, goes to a target
     pub Tr : Tree → Rep → List Name → Statements
-    Tr (Constant c) h live place code rest = TrConstant (constant_expr c h) place code rest
-    Tr (Variable x) h live place code rest = TrVariable (slot_of x scope) h place code rest
-    Tr (If a b c) h live place code rest =
+    Tr (Constant c) h live target code rest = TrConstant (constant_expr c h) target code rest
+    Tr (Variable x) h live target code rest = TrVariable (slot_of x scope) h target code rest
+    Tr (If a b c) h live target code rest =
         (h ≡ Obj)
-        × Branches vars (has_of scope a Truth_rep) (λ place code rest. Tr a (has_of scope a Truth_rep) live place code rest) live
-        (λ code. Coerced vars (has_of scope b Obj) Obj (λ place code rest. Tr b (has_of scope b Obj) live place code rest) live place code done)
-        (λ code. Coerced vars (has_of scope c Obj) Obj (λ place code rest. Tr c (has_of scope c Obj) live place code rest) live place code done) code rest
-    Tr (Sequence ts) h live place code rest = TrLast ts h live place code rest
-    Tr (Call g ns) h live place code rest =
+        × Branches vars (has_of scope a Truth_rep) (λ target code rest. Tr a (has_of scope a Truth_rep) live target code rest) live
+        (λ code. Coerced vars (has_of scope b Obj) Obj (λ target code rest. Tr b (has_of scope b Obj) live target code rest) live target code done)
+        (λ code. Coerced vars (has_of scope c Obj) Obj (λ target code rest. Tr c (has_of scope c Obj) live target code rest) live target code done) code rest
+    Tr (Sequence ts) h live target code rest = TrLast ts h live target code rest
+    Tr (Call g ns) h live target code rest =
         (h ≡ Obj)
-        × TrCall (callee_of m g) (λ temporaries code middle. TrArguments (objects ns) ns live temporaries code middle) ns live (λ c. deliver place (expr.Call c) rest) code rest
-    Tr (Primitive p ns) h live place code rest =
+        × TrCall (callee_of m g) (λ temporaries code middle. TrArguments (objects ns) ns live temporaries code middle) ns live (λ c. deliver target (expr.Call c) rest) code rest
+    Tr (Primitive p ns) h live target code rest =
         (h ≡ rep_of (result_of p))
-        × Applied vars (λ temporaries code middle. TrArguments (params_of p) ns live temporaries code middle) (params_of p) (haves scope (params_of p) ns) live (λ args. deliver place (expr.Call (operation (Does p) args)) rest) code
+        × Applied vars (λ temporaries code middle. TrArguments (params_of p) ns live temporaries code middle) (params_of p) (haves scope (params_of p) ns) live (λ args. deliver target (expr.Call (operation (Does p) args)) rest) code
 
     -- nobody takes the node's value
     pub TrUnused : Tree → List Name → Code → Code → Type 0
     TrUnused (Constant c) live code rest = code ≡ rest
     TrUnused (Variable x) live code rest = TrVariableUnused (slot_of x scope) code rest
     TrUnused (If a b c) live code rest =
-        Branches vars (has_of scope a Truth_rep) (λ place code rest. Tr a (has_of scope a Truth_rep) live place code rest) live
+        Branches vars (has_of scope a Truth_rep) (λ target code rest. Tr a (has_of scope a Truth_rep) live target code rest) live
         (λ code. TrUnused b live code done) (λ code. TrUnused c live code done) code rest
     TrUnused (Sequence ts) live code rest = TrAllUnused ts live code rest
     TrUnused (Call g ns) live code rest =
@@ -236,17 +236,17 @@ module _ (m : ModuleTree) (scope : Scope) (vars : List CVar) where
     TrAllUnused none live code rest = code ≡ rest
     TrAllUnused (more t ts) live code rest = Then vars (λ middle. TrUnused t live code middle) (λ middle. TrAllUnused ts live middle rest)
 
-    -- parts in order, the last to the place
+    -- parts in order, the last to the target
     pub TrLast : Trees → Rep → List Name → Statements
-    TrLast none h live place code rest = ⊥
-    TrLast (more t none) h live place code rest = Coerced vars (has_of scope t h) h (λ place code rest. Tr t (has_of scope t h) live place code rest) live place code rest
-    TrLast (more t (more u us)) h live place code rest = Then vars (λ middle. TrUnused t live code middle) (λ middle. TrLast (more u us) h live place middle rest)
+    TrLast none h live target code rest = ⊥
+    TrLast (more t none) h live target code rest = Coerced vars (has_of scope t h) h (λ target code rest. Tr t (has_of scope t h) live target code rest) live target code rest
+    TrLast (more t (more u us)) h live target code rest = Then vars (λ middle. TrUnused t live code middle) (λ middle. TrLast (more u us) h live target middle rest)
 
     -- the arguments, left to right, each to a temporary of its own
     pub TrArguments : List Ty → Trees → List Name → List Name → Code → Code → Type 0
     TrArguments [] none live temporaries code rest = (temporaries ≡ []) × (code ≡ rest)
     TrArguments (t ∷ ts) (more n ns) live temporaries code rest =
-        Argument vars (λ place code rest. Tr n (has_of scope n (rep_of t)) live place code rest) (λ first others middle. TrArguments ts ns (first ∷ live) others middle rest) (has_of scope n (rep_of t)) live temporaries code
+        Argument vars (λ target code rest. Tr n (has_of scope n (rep_of t)) live target code rest) (λ first others middle. TrArguments ts ns (first ∷ live) others middle rest) (has_of scope n (rep_of t)) live temporaries code
     TrArguments [] (more n ns) live temporaries code rest = ⊥
     TrArguments (t ∷ ts) none live temporaries code rest = ⊥
 

@@ -10,7 +10,7 @@ use Rattle.core_tree.specs.declared.tree.Node.{Node}
 use Rattle.core_tree.specs.declared.tree.Node.TheVariants as node
 use Rattle.core_tree.specs.Tree.{If, Trees, tree, none, more}
 use Rattle.module_head.specs.Heads.{symbol_of}
-use Rattle.resolver.specs.Drafts.{Scope, Operator, count, operator, branched, applied, onto, expression, expressions, non_empty}
+use Rattle.resolver.specs.Drafts.{Scope, Operator, count, operator, branched, applied, onto_trees, expression, expressions, non_empty}
 use Rattle.resolver.specs.Parts.{node_trees}
 use Rattle.resolver.proofs.Lists.{rest_is}
 use Rattle.module_head.proofs.Layers.{plain_list}
@@ -83,39 +83,39 @@ not_three (a ∷ b ∷ c ∷ d ∷ ns) l = refl
 
 abbrev pub ahead : Trees → Option Trees → Option Trees
 ahead none rest = rest
-ahead (more t ts) rest = onto (Some t) (ahead ts rest)
+ahead (more t ts) rest = onto_trees (Some t) (ahead ts rest)
 
 abbrev pub IsSoFar : Scope → List Datum → List Node → ℕ → Type 0
 IsSoFar s ds ns i = expressions s (plain_all ds) ≡ ahead (node_trees ns) (expressions s (plain_all (drop i ds)))
 
 pub ahead_none : (ts : Trees) → ahead ts None ≡ None
 ahead_none none = refl
-ahead_none (more t ts) = ap (onto (Some t)) (ahead_none ts)
+ahead_none (more t ts) = ap (onto_trees (Some t)) (ahead_none ts)
 
 pub ahead_all : (ts : Trees) → ahead ts (Some none) ≡ Some ts
 ahead_all none = refl
-ahead_all (more t ts) = ap (onto (Some t)) (ahead_all ts)
+ahead_all (more t ts) = ap (onto_trees (Some t)) (ahead_all ts)
 
-ahead_one : (ns : List Node) (n : Node) (rest : Option Trees) → ahead (node_trees (ns ++ n ∷ [])) rest ≡ ahead (node_trees ns) (onto (Some (tree n)) rest)
+ahead_one : (ns : List Node) (n : Node) (rest : Option Trees) → ahead (node_trees (ns ++ n ∷ [])) rest ≡ ahead (node_trees ns) (onto_trees (Some (tree n)) rest)
 ahead_one [] n rest = refl
-ahead_one (m ∷ ns) n rest = ap (onto (Some (tree m))) (ahead_one ns n rest)
+ahead_one (m ∷ ns) n rest = ap (onto_trees (Some (tree m))) (ahead_one ns n rest)
 
 one_more : (s : Scope) (ds : List Datum) (i : ℕ) (d : Datum) → i < length ds → d ≡ get_or ds i d
-    → expressions s (plain_all (drop i ds)) ≡ onto (expression s (plain d)) (expressions s (plain_all (drop (i + 1) ds)))
+    → expressions s (plain_all (drop i ds)) ≡ onto_trees (expression s (plain d)) (expressions s (plain_all (drop (i + 1) ds)))
 one_more s ds i d l e =
     ap (λ (ds : List Datum). expressions s (plain_all ds)) (drop_more ds i d l)
-    ∙ ap (λ (d : Datum). onto (expression s (plain d)) (expressions s (plain_all (drop (i + 1) ds)))) (sym e)
+    ∙ ap (λ (d : Datum). onto_trees (expression s (plain d)) (expressions s (plain_all (drop (i + 1) ds)))) (sym e)
 
 pub so_far_not : (s : Scope) (ds : List Datum) (ns : List Node) (i : ℕ) (d : Datum) → i < length ds → d ≡ get_or ds i d → IsSoFar s ds ns i
     → None ≡ expression s (plain d) → None ≡ expressions s (plain_all ds)
 so_far_not s ds ns i d l e h n =
-    sym (h ∙ ap (ahead (node_trees ns)) (one_more s ds i d l e ∙ ap (λ t. onto t (expressions s (plain_all (drop (i + 1) ds)))) (sym n)) ∙ ahead_none (node_trees ns))
+    sym (h ∙ ap (ahead (node_trees ns)) (one_more s ds i d l e ∙ ap (λ t. onto_trees t (expressions s (plain_all (drop (i + 1) ds)))) (sym n)) ∙ ahead_none (node_trees ns))
 
 pub so_far_more : (s : Scope) (ds : List Datum) (ns ms : List Node) (i : ℕ) (d : Datum) (n : Node) → i < length ds → d ≡ get_or ds i d → IsSoFar s ds ns i
     → Some (tree n) ≡ expression s (plain d) → ms ≡ ns ++ n ∷ [] → IsSoFar s ds ms (i + 1)
 so_far_more s ds ns ms i d n l e h t m =
     let rest = expressions s (plain_all (drop (i + 1) ds)) in
-    h ∙ ap (ahead (node_trees ns)) (one_more s ds i d l e ∙ ap (λ t. onto t rest) (sym t))
+    h ∙ ap (ahead (node_trees ns)) (one_more s ds i d l e ∙ ap (λ t. onto_trees t rest) (sym t))
     ∙ sym (ap (λ (ms : List Node). ahead (node_trees ms) rest) m ∙ ahead_one ns n rest)
 
 pub so_far_end : (s : Scope) (ds : List Datum) (ns : List Node) (i : ℕ) → length ds ≤ i → IsSoFar s ds ns i → Some (node_trees ns) ≡ expressions s (plain_all ds)

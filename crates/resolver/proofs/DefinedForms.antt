@@ -10,11 +10,11 @@ use Rattle.core_tree.specs.declared.tree.VarId.{VarId}
 use Rattle.core_tree.specs.declared.tree.Top.{Top}
 use Rattle.core_tree.specs.declared.tree.Top.TheVariants as top
 use Rattle.core_tree.specs.Tree.{Tree, Trees, more, tree, FunctionTree, function_tree, functions_in, forms_in}
-use Rattle.module_head.specs.Heads.{HeadTree, says}
+use Rattle.module_head.specs.Heads.{HeadTree, says, onto}
 use Rattle.module_head.specs.Parts.{parts_of}
 use Rattle.resolver.specs.declared.definitions.Definition.{Definition}
 use Rattle.resolver.specs.declared.tops.TopForm.{TopForm}
-use Rattle.resolver.specs.Drafts.{body, onto, expression, expressions, definition, Defines, Evaluates, top_form, onto_tops, tops, definitions_in, evaluated_in, defined, onto_functions, functions, top_scope, draft_with, draft_in}
+use Rattle.resolver.specs.Drafts.{body, onto_trees, expression, expressions, definition, Defines, Evaluates, top_form, tops, definitions_in, evaluated_in, defined, functions, top_scope, draft_with, draft_in}
 use Rattle.resolver.specs.Drafts as drafts
 use Rattle.resolver.specs.Parts.{definition_of, top_of, numbered_from, param_count, function_at, Builds}
 use Rattle.module_head.proofs.Layers.{listed_is}
@@ -38,12 +38,12 @@ abbrev pub AreTops : List Datum → List TopForm → ℕ → Type 0
 AreTops ds ts i = tops (plain_all ds) ≡ ahead (map top_of ts) (tops (plain_all (drop i ds)))
 
 top_next : (ds : List Datum) (ts : List TopForm) (i : ℕ) (d : Datum) (o : Option drafts.TopForm) → i < length ds → d ≡ get_or ds i d → AreTops ds ts i
-    → o ≡ top_form (plain d) → tops (plain_all ds) ≡ ahead (map top_of ts) (onto_tops o (tops (plain_all (drop (i + 1) ds))))
+    → o ≡ top_form (plain d) → tops (plain_all ds) ≡ ahead (map top_of ts) (onto o (tops (plain_all (drop (i + 1) ds))))
 top_next ds ts i d o l e h n =
     let rest = tops (plain_all (drop (i + 1) ds)) in
     h ∙ ap (λ (ds : List Datum). ahead (map top_of ts) (tops (plain_all ds))) (drop_more ds i d l)
-    ∙ ap (λ (d : Datum). ahead (map top_of ts) (onto_tops (top_form (plain d)) rest)) (sym e)
-    ∙ ap (λ o. ahead (map top_of ts) (onto_tops o rest)) (sym n)
+    ∙ ap (λ (d : Datum). ahead (map top_of ts) (onto (top_form (plain d)) rest)) (sym e)
+    ∙ ap (λ o. ahead (map top_of ts) (onto o rest)) (sym n)
 
 pub top_added : (ds : List Datum) (ts us : List TopForm) (i : ℕ) (d : Datum) (t : TopForm) → i < length ds → d ≡ get_or ds i d → AreTops ds ts i
     → Some (top_of t) ≡ top_form (plain d) → us ≡ ts ++ t ∷ [] → AreTops ds us (i + 1)
@@ -93,10 +93,10 @@ functions_stay [] n = refl
 functions_stay (top.Function f l ∷ tops) n = ap (λ fs. function_tree f l ∷ fs) (functions_stay tops n)
 functions_stay (top.Form m ∷ tops) n = functions_stay tops n
 
-form_then : (tops : List Top) (n : Node) (rest : Option Trees) → ahead_of (forms_in (tops ++ top.Form n ∷ [])) rest ≡ ahead_of (forms_in tops) (onto (Some (tree n)) rest)
+form_then : (tops : List Top) (n : Node) (rest : Option Trees) → ahead_of (forms_in (tops ++ top.Form n ∷ [])) rest ≡ ahead_of (forms_in tops) (onto_trees (Some (tree n)) rest)
 form_then [] n rest = refl
 form_then (top.Function f l ∷ tops) n rest = form_then tops n rest
-form_then (top.Form m ∷ tops) n rest = ap (onto (Some (tree m))) (form_then tops n rest)
+form_then (top.Form m ∷ tops) n rest = ap (onto_trees (Some (tree m))) (form_then tops n rest)
 
 -- In a module with these functions, which calls these of other modules.
 module _ (all outside : List (List ℕ)) (main : Option (List ℕ)) where
@@ -110,7 +110,7 @@ module _ (all outside : List (List ℕ)) (main : Option (List ℕ)) where
   goes_on fs es built first (Defines d) rest (top.Function name lambda) h b =
       let others = functions all outside main (first + length d.params) (definitions_in rest) in
       record {
-        functions = h.functions ∙ ap (λ f. ahead (functions_in built) (onto_functions f others)) b ∙ function_more (functions_in built) (function_tree name lambda) others
+        functions = h.functions ∙ ap (λ f. ahead (functions_in built) (onto f others)) b ∙ function_more (functions_in built) (function_tree name lambda) others
             ∙ ap (λ fs. ahead fs others) (sym (functions_then built name lambda));
         forms = h.forms ∙ ap (λ ts. ahead_of ts (expressions (top_scope all outside) (evaluated_in rest))) (sym (forms_stay built name lambda));
       }
@@ -122,7 +122,7 @@ module _ (all outside : List (List ℕ)) (main : Option (List ℕ)) where
       record {
         functions = h.functions ∙ ap (λ fs. ahead fs (functions all outside main first (definitions_in rest))) (sym (functions_stay built n))
             ∙ ap (λ first. ahead (functions_in (built ++ top.Form n ∷ [])) (functions all outside main first (definitions_in rest))) same;
-        forms = h.forms ∙ ap (λ t. ahead_of (forms_in built) (onto t others)) b ∙ sym (form_then built n others);
+        forms = h.forms ∙ ap (λ t. ahead_of (forms_in built) (onto_trees t others)) b ∙ sym (form_then built n others);
       }
 
   no_draft : (h : HeadTree) (fs : Option (List FunctionTree)) → draft_with h outside fs None ≡ None
@@ -132,10 +132,10 @@ module _ (all outside : List (List ℕ)) (main : Option (List ℕ)) where
   ends : (h : HeadTree) (fs : Option (List FunctionTree)) (es : Option Trees) (built : List Top) (first : ℕ) (t : drafts.TopForm) (rest : List drafts.TopForm)
       → Continues fs es built first (t ∷ rest) → Builds all outside main first t None → draft_with h outside fs es ≡ None
   ends h fs es built first (Defines d) rest c b =
-      ap (λ fs. draft_with h outside fs es) (c.functions ∙ ap (λ f. ahead (functions_in built) (onto_functions f (functions all outside main (first + length d.params) (definitions_in rest)))) b)
+      ap (λ fs. draft_with h outside fs es) (c.functions ∙ ap (λ f. ahead (functions_in built) (onto f (functions all outside main (first + length d.params) (definitions_in rest)))) b)
   ends h fs es built first (Evaluates d) rest c b =
       ap (draft_with h outside fs)
-      (c.forms ∙ ap (λ t. ahead_of (forms_in built) (onto t (expressions (top_scope all outside) (evaluated_in rest)))) b ∙ ahead_none (forms_in built))
+      (c.forms ∙ ap (λ t. ahead_of (forms_in built) (onto_trees t (expressions (top_scope all outside) (evaluated_in rest)))) b ∙ ahead_none (forms_in built))
       ∙ no_draft h fs
 
 -- as far as top-level forms were walked

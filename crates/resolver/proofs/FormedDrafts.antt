@@ -6,13 +6,13 @@ use Rattle.scheme_data.specs.Names.{is_same, are_distinct}
 use Rattle.scheme_data.specs.Data.{Plain, Number, Character, Truth, Unspecified, String, Symbol, Listed, Dotted, Vector, Plains, none, more, IsProper, AreProper}
 use Rattle.scheme_data.specs.Symbols.{IsSymbol}
 use Rattle.name_table.specs.Names.{has_name}
-use Rattle.module_head.specs.Heads.{HeadTree, is_word, symbol_of, says, head_of}
+use Rattle.module_head.specs.Heads.{HeadTree, is_word, symbol_of, says, head_of, onto}
 use Rattle.scheme_data.proofs.DistinctNames.{added}
 use Rattle.core_tree.specs.Tree.{Tree, Trees, FunctionTree, ModuleTree, function_named, found_use}
 use Rattle.core_tree.specs.WellFormed.{IsFound, IsBody, IsFunction, AreFunctions}
 use Rattle.core_tree.specs.WellFormed as formed
 use Rattle.resolver.specs.Names.{is_primitive_name, is_defined_name}
-use Rattle.resolver.specs.Drafts.{Scope, expressions, body, Definition, names, named, prototype, definition, TopForm, Defines, Evaluates, begins_definition, defining, top_form, onto_tops, tops, definitions_in, evaluated_in, variables, defined, onto_functions, scope_of, functions, top_scope, function_names, imported_names, outside_in_tops, outside_of, definition_named, takes_as_many, is_there, has_main, agrees, Draft, draft_with, draft_in, draft_of, draft}
+use Rattle.resolver.specs.Drafts.{Scope, expressions, body, Definition, names, named, prototype, definition, TopForm, Defines, Evaluates, begins_definition, defining, top_form, tops, definitions_in, evaluated_in, variables, defined, scope_of, functions, top_scope, function_names, imported_names, outside_in_tops, outside_of, definition_named, takes_as_many, is_there, has_main, agrees, Draft, draft_with, draft_in, draft_of, draft}
 use Rattle.resolver.specs.Firsts.{firsts}
 use Rattle.resolver.specs.Parts.{with_first}
 use Rattle.resolver.proofs.Firsts.{names_first}
@@ -82,7 +82,7 @@ top_formed d h = go (begins_definition d)
     go true = defining_formed (definition d) (definition_formed d h)
     go false = h
 
-onto_tops_formed : (o : Option TopForm) (ts : Option (List TopForm)) → Holds IsTop o → Holds AreTops ts → Holds AreTops (onto_tops o ts)
+onto_tops_formed : (o : Option TopForm) (ts : Option (List TopForm)) → Holds IsTop o → Holds AreTops ts → Holds AreTops (onto o ts)
 onto_tops_formed None ts h k = tt
 onto_tops_formed (Some t) None h k = tt
 onto_tops_formed (Some t) (Some ts) h k = (h, k)
@@ -109,7 +109,7 @@ defined_formed m first d None h k = tt
 defined_formed m first d (Some t) h k = record { name = h; body = k }
 
 onto_functions_formed : (m : ModuleTree) (o : Option FunctionTree) (fs : Option (List FunctionTree)) → Holds (IsFunction m) o → Holds (AreFunctions m) fs
-    → Holds (AreFunctions m) (onto_functions o fs)
+    → Holds (AreFunctions m) (onto o fs)
 onto_functions_formed m None fs h k = tt
 onto_functions_formed m (Some f) None h k = tt
 onto_functions_formed m (Some f) (Some fs) h k = (h, k)
@@ -141,7 +141,7 @@ as_many_variables first [] = refl
 as_many_variables first (x ∷ xs) = grind (arith, as_many_variables (1 + first) xs)
 
 function_of_next : (first : ℕ) (d : Definition) (ds : List Definition) (t : Option Tree) (fs : Option (List FunctionTree)) → Holds (AreOf ds) fs
-    → Holds (AreOf (d ∷ ds)) (onto_functions (defined first d t) fs)
+    → Holds (AreOf (d ∷ ds)) (onto (defined first d t) fs)
 function_of_next first d ds None fs h = tt
 function_of_next first d ds (Some t) None h = tt
 function_of_next first d ds (Some t) (Some fs) h = (record { name = refl; many = as_many_variables first d.params }, h)

@@ -15,7 +15,7 @@ use Rattle.core_tree.specs.Tree.{Tree, Trees, FunctionTree, ModuleTree, found_ow
 use Rattle.core_tree.specs.Tree as tree
 use Rattle.core_tree.specs.WellFormed.{AsMany, same_variable, IsFound, IsExpression, AreExpressions, IsBody}
 use Rattle.resolver.specs.Names.{is_special}
-use Rattle.resolver.specs.Drafts.{count, Scope, numbered, variable, taking, Operator, Branch, Function, Builtins, primitive_operator, outside_operator, global_operator, unless_bound, unless_special, operator, branched, applied, onto, expression, expressions, non_empty, body, variables}
+use Rattle.resolver.specs.Drafts.{count, Scope, numbered, variable, taking, Operator, Branch, Function, Builtins, primitive_operator, outside_operator, global_operator, unless_bound, unless_special, operator, branched, applied, onto_trees, expression, expressions, non_empty, body, variables}
 use Rattle.resolver.proofs.FormedParts.{Holds}
 
 as_many : (tys : List Ty) (ts : Trees) → tree.count ts ≡ length tys → AsMany tys ts
@@ -90,7 +90,7 @@ applied_formed m ps n (Some (Function g)) (Some ts) h k = (h, k.each)
 applied_formed m ps n (Some (Builtins p)) (Some ts) h k = (as_many (params_of p) ts (k.many ∙ h), k.each)
 
 onto_formed : (m : ModuleTree) (ps : List VarId) (n : ℕ) (t : Option Tree) (ts : Option Trees)
-    → Holds (IsExpression m ps) t → Holds (AreArguments m ps n) ts → Holds (AreArguments m ps (1 + n)) (onto t ts)
+    → Holds (IsExpression m ps) t → Holds (AreArguments m ps n) ts → Holds (AreArguments m ps (1 + n)) (onto_trees t ts)
 onto_formed m ps n None ts h k = tt
 onto_formed m ps n (Some t) None h k = tt
 onto_formed m ps n (Some t) (Some ts) h k = record { many = let e : tree.count ts ≡ n = k.many in omega arith; each = (h, k.each) }

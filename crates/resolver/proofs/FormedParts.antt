@@ -4,7 +4,6 @@ use Rattle.std.specs.Cmp.Lexicographic.{bytes_decides, nat_list_eq_equiv}
 use Rattle.scheme_data.specs.Names.{are_distinct}
 use Rattle.name_table.specs.Names.{has_name}
 use Rattle.module_head.specs.Heads.{is_word}
-use Rattle.core_tree.specs.WellFormed as formed
 use Rattle.scheme_data.proofs.DistinctNames.{twice}
 
 -- what holds of the value, where there is one

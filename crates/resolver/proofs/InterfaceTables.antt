@@ -1,10 +1,13 @@
 -- What a table that is filled from its last row on finds.
-use Rattle.std.proofs.Common.{◌≡◌, ℕ, suc, ◌-◌, ◌<◌, ◌≤◌, Bool, true, false, cond, List, [], ◌∷◌, length, get_or, map, drop, Option, None, Some, nat_eq, refl, sym, ap, subst, ◌∙◌, true≢false, if◌then◌else◌, arith, drop-cons}
+use Rattle.std.proofs.Common.{◌≡◌, ℕ, suc, ◌-◌, ◌<◌, ◌≤◌, Bool, true, false, cond, List, [], ◌∷◌, length, get_or, map, drop, Option, None, Some, refl, sym, ap, subst, ◌∙◌, true≢false, arith, drop-cons}
 use Rattle.std.specs.Borrow.{Bor}
-use Rattle.std.specs.Cmp.Lexicographic.{pointwise, nat_list_eq_equiv, bytes_decides}
+use Rattle.std.specs.Cmp.Lexicographic.{slice_cmp, nat_list_eq_equiv, bytes_decides, texts_ties}
 use Rattle.std.specs.Map.{lookup}
 use Rattle.std.specs.Option.{option_map, option_and_then, option_copied}
-use Rattle.indexmap.specs.IndexMap.{insert_entry}
+use Rattle.std.specs.BTreeMap.{insert_entry}
+use Rattle.std.specs.Ordering.{is_eq, nat_cmp, eq_by_cmp, match_ordering}
+use Rattle.std.specs.declared.cmp.Ordering.{Ordering}
+use Rattle.std.specs.declared.cmp.Ordering.TheVariants.{Less, Equal, Greater}
 use Rattle.iface_text.specs.declared.interface.Iface.{Iface}
 use Rattle.iface_text.specs.declared.interface.Row.{Row}
 use Rattle.iface_text.specs.Format.{IfaceTree, iface_tree}
@@ -12,8 +15,12 @@ use Rattle.module_head.specs.Heads.{is_word}
 use Rattle.resolver.specs.Elaboration.{interface_named, row_in, row_for}
 use Rattle.resolver.specs.UseTables.{Key, is_key, row_named, HaveSameRows, rows_of, AreNamed, ifaces_of, OfferSameRows}
 
+-- the order of keys
+abbrev pub key_cmp : Key → Key → Ordering
+key_cmp a b = slice_cmp nat_cmp a.now b.now
+
 abbrev pub same_key : Key → Key → Bool
-same_key a b = pointwise nat_eq a.now b.now
+same_key a b = eq_by_cmp (slice_cmp nat_cmp) a.now b.now
 
 -- a key with this name
 abbrev pub key_of : List ℕ → Key
@@ -21,7 +28,7 @@ key_of name = record { ref_ptr = (0, 0); now = name }
 
 -- the order of two names in a test doesn't matter
 pub turned : (k : Key) (name : List ℕ) → is_word k.now name ≡ is_key name k
-turned k name = nat_list_eq_equiv.symm k.now name
+turned k name = nat_list_eq_equiv.symm k.now name ∙ texts_ties name k.now
 
 pub map-cond : {A B : Type 0} (f : A → B) (b : Bool) (x y : Option A) → option_map f (cond b x y) ≡ cond b (option_map f x) (option_map f y)
 map-cond f true x y = refl
@@ -36,13 +43,14 @@ pub record HasRows (es : List (Key × Bor Row)) (rows : List Row) : Type 0 where
   pub named : AreNamed es
   pub found : (name : List ℕ) → row_at es name ≡ row_named rows name
 
-pub named_put : (es : List (Key × Bor Row)) (k : Key) (r : Bor Row) → k.now ≡ r.now.name → AreNamed es → AreNamed (insert_entry same_key es k r)
+pub named_put : (es : List (Key × Bor Row)) (k : Key) (r : Bor Row) → k.now ≡ r.now.name → AreNamed es → AreNamed (insert_entry key_cmp es k r)
 named_put [] k r own h = (own, tt)
-named_put (e ∷ es) k r own h = by (named_put es k r own h.1) (same_key k e.0) refl
+named_put (e ∷ es) k r own h = by (named_put es k r own h.1) (key_cmp k e.0) refl
   where
-    by : AreNamed (insert_entry same_key es k r) → (b : Bool) → same_key k e.0 ≡ b → AreNamed (if b then (e.0, r) ∷ es else e ∷ insert_entry same_key es k r)
-    by later true same = (sym ((bytes_decides k.now e.0.now).0 same) ∙ own, h.1)
-    by later false same = (h.0, later)
+    by : AreNamed (insert_entry key_cmp es k r) → (o : Ordering) → key_cmp k e.0 ≡ o → AreNamed (match_ordering o ((k, r) ∷ e ∷ es) ((e.0, r) ∷ es) (e ∷ insert_entry key_cmp es k r))
+    by later Less is = (own, h)
+    by later Equal is = (sym ((bytes_decides k.now e.0.now).0 (texts_ties k.now e.0.now ∙ ap is_eq is)) ∙ own, h.1)
+    by later Greater is = (h.0, later)
 
 -- the table's rows as a list
 pub rows_found : (es : List (Key × Bor Row)) (name : List ℕ) → AreNamed es → row_named (rows_of es) name ≡ row_at es name
@@ -60,14 +68,15 @@ split xs i x some within is =
 abbrev pub Puts : {X : Type 0} → List (Key × X) → List (Key × X) → Key → X → Type 0
 Puts old new k v = (q : Key) → lookup (same_key q) new ≡ cond (same_key k q) (Some v) (lookup (same_key q) old)
 
-pub rows_more : (rows : List Row) (i : ℕ) (row : Row) (old new : List (Key × Bor Row)) (k : Key) (r : Bor Row) → 0 < i → i ≤ length rows → row ≡ get_or rows (i - 1) row → k.now ≡ row.name → r.now ≡ row → HasRows old (drop i rows) → new ≡ insert_entry same_key old k r → Puts old new k r → HasRows new (drop (i - 1) rows)
+pub rows_more : (rows : List Row) (i : ℕ) (row : Row) (old new : List (Key × Bor Row)) (k : Key) (r : Bor Row) → 0 < i → i ≤ length rows → row ≡ get_or rows (i - 1) row → k.now ≡ row.name → r.now ≡ row → HasRows old (drop i rows) → new ≡ insert_entry key_cmp old k r → Puts old new k r → HasRows new (drop (i - 1) rows)
 rows_more rows i row old new k r some within is named own had entries puts = record {
   named = subst AreNamed (sym entries) (named_put old k r (named ∙ ap (λ (x : Row). x.name) (sym own)) had.named);
   found =
       λ name.
       ap (option_map (λ (x : Bor Row). x.now)) (puts (key_of name))
       ∙ map-cond (λ (x : Bor Row). x.now) (same_key k (key_of name)) (Some r) (lookup (is_key name) old)
-      ∙ (λ j. cond (is_word (named j) name) (Some (own j)) (had.found name j))
+      ∙ (λ j. cond (sym (texts_ties k.now name) j) (Some (own j)) (had.found name j))
+      ∙ ap (λ n. cond (is_word n name) (Some row) (row_named (drop i rows) name)) named
       ∙ ap (λ rs. row_named rs name) (sym (split rows i row some within is));
 }
 
@@ -96,7 +105,7 @@ ifaces_more ifaces i iface old new k rows slice some within is named sliced same
     ifaces_found new m name
     ∙ ap (option_and_then (λ rs. row_named rs name)) (puts (key_of m))
     ∙ iface_put old (map iface_tree (drop i ifaces)) (iface_tree iface) m name rows (same_key k (key_of m)) (same name ∙ ap (λ rs. row_named rs name) sliced) (had m name)
-    ∙ ap (λ b. row_in (cond b (Some (iface_tree iface)) (interface_named (map iface_tree (drop i ifaces)) m)) name) (ap (λ n. is_word n m) named)
+    ∙ ap (λ b. row_in (cond b (Some (iface_tree iface)) (interface_named (map iface_tree (drop i ifaces)) m)) name) (sym (texts_ties k.now m) ∙ ap (λ n. is_word n m) named)
     ∙ ap (λ is. row_for (map iface_tree is) m name) (sym (split ifaces i iface some within is))
 
 pub ifaces_all : (ifaces : List Iface) (i : ℕ) (es : List (Key × List Row)) → i ≡ 0 → OfferSameRows (ifaces_of es) (map iface_tree (drop i ifaces)) → OfferSameRows (ifaces_of es) (map iface_tree ifaces)

@@ -1,6 +1,7 @@
 -- Tables of names of which none stands twice.
-use Rattle.std.proofs.Common.{◌≡◌, ℕ, ◌+◌, ◌<◌, Bool, true, false, if◌then◌else◌, List, [], ◌∷◌, ◌++◌, map, length, drop, get_or, Option, Some, None, refl, sym, ap, ◌∙◌, append_assoc}
-use Rattle.std.proofs.lemmas.List.{drop_more}
+use Rattle.std.proofs.Common.{◌≡◌, ℕ, ◌+◌, ◌<◌, ◌≤◌, Bool, true, false, if◌then◌else◌, List, [], ◌∷◌, ◌++◌, map, length, drop, get_or, Option, Some, None, refl, sym, ap, subst, ◌∙◌, append_assoc}
+use Rattle.std.proofs.lemmas.List.{drop_more, at_drop_all, append-nil}
+use Rattle.std.specs.Borrow.{Bor}
 use Rattle.std.specs.List.{list_any}
 use Rattle.scheme_data.specs.Names.{are_distinct}
 use Rattle.scheme_data.proofs.DistinctNames.{twice, added}
@@ -8,7 +9,7 @@ use Rattle.scheme_data.specs.Data.{plain, plain_all}
 use Rattle.scheme_data.specs.declared.datum.Datum.{Datum}
 use Rattle.resolver.specs.declared.definitions.Definition.{Definition}
 use Rattle.resolver.specs.declared.tops.TopForm.{TopForm}
-use Rattle.resolver.specs.declared.tops.TopForm.TheVariants.{Define}
+use Rattle.resolver.specs.declared.tops.TopForm.TheVariants.{Define, Evaluate}
 use Rattle.module_head.specs.Heads.{is_word, symbol_of}
 use Rattle.resolver.specs.Names.{is_bound_name}
 use Rattle.resolver.specs.Drafts.{onto_names, names, definitions_in, function_names}
@@ -103,3 +104,18 @@ listed_more ts xs ys i t d l e h n w y = record {
   none_twice = ap are_distinct y ∙ added xs d.name.now h.none_twice w;
   so_far = listed_here ts xs i t d l e h n ∙ sym (append_assoc xs (d.name.now ∷ []) (names_in (drop (i + 1) ts))) ∙ ap (λ ys. ys ++ names_in (drop (i + 1) ts)) (sym y);
 }
+
+pub listed_start : (ts : List TopForm) (xs : List (List ℕ)) → xs ≡ [] → IsListed ts xs 0
+listed_start ts xs e = subst (λ xs. IsListed ts xs 0) (sym e) (record { none_twice = refl; so_far = refl })
+
+-- an expression has no name
+pub listed_form : (ts : List TopForm) (xs : List (List ℕ)) (i : ℕ) (t : TopForm) (d : Bor Datum) → i < length ts → t ≡ get_or ts i t → IsListed ts xs i → t ≡ Evaluate d → IsListed ts xs (i + 1)
+listed_form ts xs i t d l e h n = record {
+  none_twice = h.none_twice;
+  so_far = listed_next ts xs i t l e h ∙ ap (λ (t : TopForm). xs ++ function_names (definitions_in (top_of t ∷ map top_of (drop (i + 1) ts)))) n;
+}
+
+pub listed_all : (ts : List TopForm) (xs : List (List ℕ)) (i : ℕ) → length ts ≤ i → IsListed ts xs i → Some xs ≡ distinct (Some (names_in ts))
+listed_all ts xs i past h =
+    let all : names_in ts ≡ xs = h.so_far ∙ at_drop_all (λ (ts : List TopForm). xs ++ names_in ts) ts i past ∙ append-nil xs in
+    sym (ap (λ xs. distinct (Some xs)) all ∙ distinct_where xs true h.none_twice)

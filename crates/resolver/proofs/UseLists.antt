@@ -1,11 +1,14 @@
 -- How lists of uses grow.
-use Rattle.std.proofs.Common.{◌≡◌, ℕ, ◌+◌, ◌<◌, Bool, true, false, not, ◌&&◌, ◌||◌, cond, List, [], ◌∷◌, ◌++◌, length, get_or, map, find, drop, take, slice_get, Option, None, Some, nat_eq, refl, sym, ap, ◌∙◌, true≢false, if◌then◌else◌, append_assoc, drop-cons, add-one}
+use Rattle.std.proofs.Common.{◌≡◌, ℕ, ◌+◌, ◌<◌, ◌≤◌, Bool, true, false, not, ◌&&◌, ◌||◌, cond, List, [], ◌∷◌, ◌++◌, length, get_or, map, find, drop, take, slice_get, Option, None, Some, nat_eq, refl, sym, ap, ◌∙◌, true≢false, if◌then◌else◌, append_assoc, drop-cons, add-one}
 use Rattle.std.specs.Borrow.{Bor}
-use Rattle.std.specs.Cmp.Lexicographic.{pointwise}
+use Rattle.std.specs.Cmp.Lexicographic.{pointwise, slice_cmp, nat_list_eq_equiv, texts_ties}
+use Rattle.std.specs.Cmp.{both_tied}
+use Rattle.std.specs.Ordering.{nat_cmp, ordering_then, is_eq}
 use Rattle.std.specs.List.{list_any}
 use Rattle.std.specs.Map.{lookup}
 use Rattle.std.specs.Option.{option_map, option_and_then, option_copied}
-use Rattle.std.proofs.lemmas.List.{take_more, map-append}
+use Rattle.std.proofs.lemmas.Bool.{not-true, not-false}
+use Rattle.std.proofs.lemmas.List.{take_more, take_all, map-append}
 use Rattle.std.proofs.lemmas.List.Folds.{list_any-append}
 use Rattle.std.proofs.lemmas.Option.{get_or_from_slice_get, slice_get_within}
 use Rattle.scheme_data.specs.Names.{is_same}
@@ -21,7 +24,7 @@ use Rattle.resolver.specs.Parts.{with_first}
 use Rattle.resolver.specs.UseTables.{Key, is_key, OfferSameRows, module_at, HasModules, TakesItem}
 use Rattle.resolver.specs.TakenRows.{use_of}
 use Rattle.resolver.specs.declared.uses.Taken.{Taken}
-use Rattle.resolver.proofs.InterfaceTables.{same_key, key_of, turned, map-cond, Puts}
+use Rattle.resolver.proofs.InterfaceTables.{same_key, key_of, map-cond, Puts}
 
 -- The modules of imported names -------------------------------------------------------------
 
@@ -34,15 +37,18 @@ choose false false x y = refl
 pub name_more : (names : List (List ℕ)) (i : ℕ) (x m : List ℕ) (start old new : List (Key × Bor (List ℕ))) (k : Key) (v : Bor (List ℕ)) → i < length names → x ≡ get_or names i x → k.now ≡ x → v.now ≡ m → TakesItem start old (record { module_name = m; names = take i names }) → Puts old new k v → TakesItem start new (record { module_name = m; names = take (i + 1) names })
 name_more names i x m start old new k v within is named own had puts name =
     let more : has_name (take i names) name || (is_word k.now name || false) ≡ has_name (take (i + 1) names) name =
-    ap (λ b. has_name (take i names) name || (b || false)) (turned k name ∙ ap (pointwise nat_eq name) named)
+    ap (λ b. has_name (take i names) name || (b || false)) (nat_list_eq_equiv.symm k.now name ∙ ap (pointwise nat_eq name) named)
     ∙ sym (list_any-append (pointwise nat_eq name) (take i names) (x ∷ []))
     ∙ ap (λ y. has_name (take i names ++ y ∷ []) name) is
     ∙ ap (λ l. has_name l name) (sym (take_more names i x within)) in
     ap (option_map (λ (r : Bor (List ℕ)). r.now)) (puts (key_of name))
     ∙ map-cond (λ (r : Bor (List ℕ)). r.now) (same_key k (key_of name)) (Some v) (lookup (is_key name) old)
-    ∙ (λ j. cond (is_word k.now name) (Some (own j)) (had name j))
+    ∙ (λ j. cond (sym (texts_ties k.now name) j) (Some (own j)) (had name j))
     ∙ choose (is_word k.now name) (has_name (take i names) name) (Some m) (module_at start name)
     ∙ ap (λ b. cond b (Some m) (module_at start name)) more
+
+pub names_all : (names items : List (List ℕ)) (i : ℕ) (m : List ℕ) (start es : List (Key × Bor (List ℕ))) → length items ≤ i → items ≡ names → TakesItem start es (record { module_name = m; names = take i items }) → TakesItem start es (record { module_name = m; names = names })
+names_all names items i m start es past same had name = had name ∙ ap (λ l. if has_name l name then Some m else module_at start name) (take_all i items past ∙ same)
 
 -- Calls -------------------------------------------------------------------------------------
 
@@ -90,7 +96,10 @@ call_goes_on ifs is names old new t whole i name at some grown had =
 -- Each use once -----------------------------------------------------------------------------
 
 abbrev pub same_pair : Key × Key → Key × Key → Bool
-same_pair a b = is_same a.0.now b.0.now && is_same a.1.now b.1.now
+same_pair a b = is_eq (ordering_then (slice_cmp nat_cmp a.0.now b.0.now) (slice_cmp nat_cmp a.1.now b.1.now))
+
+pair_tied : (a b : Key × Key) → (is_same a.0.now b.0.now && is_same a.1.now b.1.now) ≡ same_pair a b
+pair_tied a b = both_tied _ _ _ _ (texts_ties a.0.now b.0.now) (texts_ties a.1.now b.1.now)
 
 -- the use is of this name of this module
 abbrev pub is_use : Key × Key → Use → Bool
@@ -128,43 +137,45 @@ seen_is seen us k t p each =
     (λ j. list_any (λ v. is_same (sym (pair_module k t p) j) (module_of v) && is_same (sym (pair_name k t p) j) (row_of v).name) us)
     ∙ sym (each k)
 
--- a pair that isn't put is there, and one that is put isn't
-is_there : (b : Bool) → not b ≡ false → b ≡ true
-is_there true h = refl
-is_there false h = absurd (true≢false h)
+pub seen_again : (taken : List Taken) (i : ℕ) (t : Taken) (k : Key × Key) (seen after : List (Key × Key)) (us : List Use) → i < length taken → t ≡ get_or taken i t → IsPair k t → AreSeen taken i seen us → not (list_any (same_pair k) seen) ≡ false → after ≡ seen → AreSeen taken (i + 1) after us
+seen_again taken i t k seen after us within is p had kept same = record {
+  each = λ q. ap (list_any (same_pair q)) same ∙ had.each q;
+  done =
+      had.done ∙ ap (λ l. with_first same_use us (map use_of l)) (here taken i t within is)
+      ∙ ap (λ b. with_first same_use (if b then us else us ++ use_of t ∷ []) (map use_of (drop (i + 1) taken))) (seen_is seen us k t p had.each ∙ not-false (list_any (same_pair k) seen) kept);
+}
 
-is_absent : (b : Bool) → not b ≡ true → b ≡ false
-is_absent true h = absurd (true≢false (sym h))
-is_absent false h = refl
+-- the pair is in the set now, and every other pair is where it was
+abbrev pub PutsPair : List (Key × Key) → List (Key × Key) → Key × Key → Type 0
+PutsPair old new k = (q : Key × Key) → list_any (same_pair q) new ≡ cond (same_pair k q) true (list_any (same_pair q) old)
 
-pub seen_again : (taken : List Taken) (i : ℕ) (t : Taken) (k : Key × Key) (seen after : List (Key × Key)) (us : List Use) → i < length taken → t ≡ get_or taken i t → IsPair k t → AreSeen taken i seen us → not (list_any (same_pair k) seen) ≡ false → after ≡ (if list_any (same_pair k) seen then seen else seen ++ k ∷ []) → AreSeen taken (i + 1) after us
-seen_again taken i t k seen after us within is p had kept grown =
-    let there : list_any (same_pair k) seen ≡ true = is_there (list_any (same_pair k) seen) kept in
-    let same : after ≡ seen = grown ∙ ap (λ b. if b then seen else seen ++ k ∷ []) there in
-    record {
-      each = λ q. ap (list_any (same_pair q)) same ∙ had.each q;
-      done =
-          had.done ∙ ap (λ l. with_first same_use us (map use_of l)) (here taken i t within is)
-          ∙ ap (λ b. with_first same_use (if b then us else us ++ use_of t ∷ []) (map use_of (drop (i + 1) taken))) (seen_is seen us k t p had.each ∙ there);
-    }
+one_more : (b d : Bool) → cond b true d ≡ d || (b || false)
+one_more true true = refl
+one_more true false = refl
+one_more false true = refl
+one_more false false = refl
 
-pub seen_first : (taken : List Taken) (i : ℕ) (t : Taken) (k : Key × Key) (seen after : List (Key × Key)) (us new : List Use) → i < length taken → t ≡ get_or taken i t → IsPair k t → AreSeen taken i seen us → not (list_any (same_pair k) seen) ≡ true → after ≡ (if list_any (same_pair k) seen then seen else seen ++ k ∷ []) → new ≡ us ++ use_of t ∷ [] → AreSeen taken (i + 1) after new
-seen_first taken i t k seen after us new within is p had put grown added =
-    let absent : list_any (same_pair k) seen ≡ false = is_absent (list_any (same_pair k) seen) put in
-    let longer : after ≡ seen ++ k ∷ [] = grown ∙ ap (λ b. if b then seen else seen ++ k ∷ []) absent in
-    record {
-      each =
-          λ q.
-          ap (list_any (same_pair q)) longer
-          ∙ list_any-append (same_pair q) seen (k ∷ [])
-          ∙ (λ j. had.each q j || ((is_same q.0.now (pair_module k t p j) && is_same q.1.now (pair_name k t p j)) || false))
-          ∙ sym (list_any-append (is_use q) us (use_of t ∷ []))
-          ∙ ap (list_any (is_use q)) (sym added);
-      done =
-          had.done ∙ ap (λ l. with_first same_use us (map use_of l)) (here taken i t within is)
-          ∙ ap (λ b. with_first same_use (if b then us else us ++ use_of t ∷ []) (map use_of (drop (i + 1) taken))) (seen_is seen us k t p had.each ∙ absent)
-          ∙ ap (λ l. with_first same_use l (map use_of (drop (i + 1) taken))) (sym added);
-    }
+-- whether it is the use that a pair names
+names_use : (k q : Key × Key) (t : Taken) → IsPair k t → same_pair k q ≡ is_use q (use_of t)
+names_use k q t p =
+    sym (pair_tied k q)
+    ∙ (λ j. nat_list_eq_equiv.symm k.0.now q.0.now j && nat_list_eq_equiv.symm k.1.now q.1.now j)
+    ∙ (λ j. is_same q.0.now (pair_module k t p j) && is_same q.1.now (pair_name k t p j))
+
+pub seen_first : (taken : List Taken) (i : ℕ) (t : Taken) (k : Key × Key) (seen after : List (Key × Key)) (us new : List Use) → i < length taken → t ≡ get_or taken i t → IsPair k t → AreSeen taken i seen us → not (list_any (same_pair k) seen) ≡ true → PutsPair seen after k → new ≡ us ++ use_of t ∷ [] → AreSeen taken (i + 1) after new
+seen_first taken i t k seen after us new within is p had put grown added = record {
+  each =
+      λ q.
+      grown q
+      ∙ (λ j. cond (names_use k q t p j) true (had.each q j))
+      ∙ one_more (is_use q (use_of t)) (list_any (is_use q) us)
+      ∙ sym (list_any-append (is_use q) us (use_of t ∷ []))
+      ∙ ap (list_any (is_use q)) (sym added);
+  done =
+      had.done ∙ ap (λ l. with_first same_use us (map use_of l)) (here taken i t within is)
+      ∙ ap (λ b. with_first same_use (if b then us else us ++ use_of t ∷ []) (map use_of (drop (i + 1) taken))) (seen_is seen us k t p had.each ∙ not-true (list_any (same_pair k) seen) put)
+      ∙ ap (λ l. with_first same_use l (map use_of (drop (i + 1) taken))) (sym added);
+}
 
 -- Interfaces with the same rows -------------------------------------------------------------
 

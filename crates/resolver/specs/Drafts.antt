@@ -9,7 +9,7 @@ use Rattle.name_table.specs.Names.{has_name, place_of}
 use Rattle.iface_text.specs.declared.interface.Row.{Row}
 use Rattle.iface_text.specs.Format.{IfaceTree}
 use Rattle.iface_text.specs.Lines.{untyped_row}
-use Rattle.module_head.specs.Heads.{ImportTree, ExportTree, HeadTree, is_word, symbol_of, says, head_of}
+use Rattle.module_head.specs.Heads.{ImportTree, ExportTree, HeadTree, is_word, symbol_of, says, onto, head_of}
 use Rattle.core_tree.specs.declared.tree.Const.TheVariants.{Int, Bool as Boolean}
 use Rattle.core_tree.specs.declared.tree.VarId.{VarId}
 use Rattle.core_tree.specs.declared.tree.GlobalRef.{GlobalRef}
@@ -91,10 +91,10 @@ applied (Some Branch) (Some ts) = branched ts
 applied (Some (Function g)) (Some ts) = Some (Call g ts)
 applied (Some (Builtins p)) (Some ts) = Some (Primitive p ts)
 
-abbrev pub onto : Option Tree → Option Trees → Option Trees
-onto None ts = None
-onto (Some t) None = None
-onto (Some t) (Some ts) = Some (tree.more t ts)
+abbrev pub onto_trees : Option Tree → Option Trees → Option Trees
+onto_trees None ts = None
+onto_trees (Some t) None = None
+onto_trees (Some t) (Some ts) = Some (tree.more t ts)
 
 module _ (scope : Scope) where
   -- a number or a truth value, a parameter, an `if`, or a call by name; no other constant is one yet
@@ -110,7 +110,7 @@ module _ (scope : Scope) where
     -- all of them, where each is an expression
     pub expressions : Plains → Option Trees
     expressions none = Some tree.none
-    expressions (more d ds) = onto (expression d) (expressions ds)
+    expressions (more d ds) = onto_trees (expression d) (expressions ds)
 
 abbrev pub non_empty : Option Trees → Option Tree
 non_empty None = None
@@ -168,15 +168,10 @@ defining (Some d) = Some (Defines d)
 abbrev pub top_form : Plain → Option TopForm
 top_form d = if begins_definition d then defining (definition d) else Some (Evaluates d)
 
-abbrev pub onto_tops : Option TopForm → Option (List TopForm) → Option (List TopForm)
-onto_tops None ts = None
-onto_tops (Some t) None = None
-onto_tops (Some t) (Some ts) = Some (t ∷ ts)
-
 -- the top-level forms, in source order
 abbrev pub tops : Plains → Option (List TopForm)
 tops none = Some []
-tops (more d ds) = onto_tops (top_form d) (tops ds)
+tops (more d ds) = onto (top_form d) (tops ds)
 
 abbrev pub definitions_in : List TopForm → List Definition
 definitions_in [] = []
@@ -197,11 +192,6 @@ abbrev pub defined : ℕ → Definition → Option Tree → Option FunctionTree
 defined first d None = None
 defined first d (Some t) = Some (record { name = d.name; params = variables first d.params; body = t })
 
-abbrev pub onto_functions : Option FunctionTree → Option (List FunctionTree) → Option (List FunctionTree)
-onto_functions None fs = None
-onto_functions (Some f) None = None
-onto_functions (Some f) (Some fs) = Some (f ∷ fs)
-
 -- the functions of the definitions, in a module with these functions, which calls these of other modules
 module _ (all outside : List (List ℕ)) (main : Option (List ℕ)) where
   abbrev pub scope_of : ℕ → Definition → Scope
@@ -209,7 +199,7 @@ module _ (all outside : List (List ℕ)) (main : Option (List ℕ)) where
 
   abbrev pub functions : ℕ → List Definition → Option (List FunctionTree)
   functions first [] = Some []
-  functions first (d ∷ ds) = onto_functions (defined first d (body (scope_of first d) d.body)) (functions (first + length d.params) ds)
+  functions first (d ∷ ds) = onto (defined first d (body (scope_of first d) d.body)) (functions (first + length d.params) ds)
 
 -- what the expressions among the top-level forms see: no parameters
 abbrev pub top_scope : List (List ℕ) → List (List ℕ) → Scope

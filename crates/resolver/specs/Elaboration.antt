@@ -1,10 +1,12 @@
 -- The tree of a module, from its source and the interfaces with which it is compiled.
 use Rattle.std.specs.Prelude.{ℕ, List, [], ◌∷◌, ◌++◌, map, find, Option, Some, None}
+use Rattle.std.specs.List.{AllByRecursion}
 use Rattle.scheme_data.specs.Data.{Plains}
 use Rattle.name_table.specs.Names.{has_name}
 use Rattle.iface_text.specs.declared.interface.Row.{Row}
 use Rattle.iface_text.specs.Format.{IfaceTree, HasSpelling}
 use Rattle.module_head.specs.Heads.{ImportTree, is_word}
+pub use Rattle.module_head.specs.Heads.{onto}
 use Rattle.core_tree.specs.declared.tree.ImportItem.{ImportItem}
 use Rattle.core_tree.specs.declared.tree.Use.{Use}
 use Rattle.core_tree.specs.declared.tree.Use.TheVariants.{From, Need}
@@ -14,8 +16,7 @@ use Rattle.resolver.specs.Drafts.{Draft, draft, exported_rows}
 use Rattle.resolver.specs.Firsts.{firsts}
 
 abbrev pub AreSpelled : List IfaceTree → Type 0
-AreSpelled [] = Unit {0}
-AreSpelled (i ∷ is) = HasSpelling i × AreSpelled is
+AreSpelled ifaces = AllByRecursion HasSpelling ifaces
 
 -- Rows --------------------------------------------------------------------------------------
 
@@ -32,11 +33,6 @@ abbrev pub row_for : List IfaceTree → List ℕ → List ℕ → Option Row
 row_for ifaces m name = row_in (interface_named ifaces m) name
 
 -- Uses --------------------------------------------------------------------------------------
-
-abbrev pub onto : Option Use → Option (List Use) → Option (List Use)
-onto None us = None
-onto (Some u) None = None
-onto (Some u) (Some us) = Some (u ∷ us)
 
 abbrev pub both : Option (List Use) → Option (List Use) → Option (List Use)
 both None vs = None

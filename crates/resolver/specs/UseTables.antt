@@ -1,7 +1,8 @@
 -- What tables of names hold, as the lists of what they were made of.
-use Rattle.std.specs.Prelude.{◌≡◌, ℕ, List, [], ◌∷◌, map, find, nat_eq, Bool, if◌then◌else◌, Option, Some}
+use Rattle.std.specs.Prelude.{◌≡◌, ℕ, List, [], ◌∷◌, map, find, Bool, if◌then◌else◌, Option, Some}
 use Rattle.std.specs.Borrow.{Bor}
-use Rattle.std.specs.Cmp.Lexicographic.{pointwise}
+use Rattle.std.specs.Cmp.Lexicographic.{slice_cmp}
+use Rattle.std.specs.Ordering.{nat_cmp, eq_by_cmp}
 use Rattle.std.specs.Map.{lookup}
 use Rattle.std.specs.Option.{option_map}
 use Rattle.name_table.specs.Names.{has_name}
@@ -15,7 +16,7 @@ abbrev pub Key : Type 0
 Key = Bor (List ℕ)
 
 abbrev pub is_key : List ℕ → Key → Bool
-is_key name k = pointwise nat_eq name k.now
+is_key name k = eq_by_cmp (slice_cmp nat_cmp) name k.now
 
 -- Interfaces --------------------------------------------------------------------------------
 

@@ -7,15 +7,15 @@ ghost use Rattle.resolver.specs.UseTables.{row_named, HaveSameRows, OfferSameRow
 
 use built_table::Ty;
 use iface_text::{Iface, Row, RowKind};
-use indexmap::IndexMap;
 use scheme_data::{List, OutOfMemory};
 use std::alloc::Global;
+use std::collections::BTreeMap;
 use std::marker::Model;
 
 /// The rows of an interface, each found by its name. Of two rows of one name the first counts.
 #[derive(Drop)]
 struct Rows<'a> {
-    by_name: IndexMap<&'a [u8], &'a Row>,
+    by_name: BTreeMap<&'a [u8], &'a Row>,
 }
 
 impl<'a> Model for Rows<'a> {
@@ -34,7 +34,7 @@ impl<'a> Rows<'a> {
     fn new(alloc: Global, rows: &'a [Row]) -> Result<Rows<'a>, OutOfMemory>
         ensures { IfOk result (λ t. HaveSameRows t rows.now) }
     {
-        let mut by_name = IndexMap::new(alloc);
+        let mut by_name = BTreeMap::new(alloc);
         // The last row comes first, so that of two rows of one name the first stays.
         for i in (0..rows.len()).rev() {
             let row = &rows[i];
@@ -53,7 +53,7 @@ impl<'a> Rows<'a> {
 /// The rows of interfaces, each found by the names of its module and of itself. Of two interfaces of one module the first counts.
 #[derive(Drop)]
 pub struct Interfaces<'a> {
-    modules: IndexMap<&'a [u8], Rows<'a>>,
+    modules: BTreeMap<&'a [u8], Rows<'a>>,
 }
 
 impl<'a> Model for Interfaces<'a> {
@@ -71,7 +71,7 @@ impl<'a> Interfaces<'a> {
     pub fn new(alloc: Global, ifaces: &'a [Iface]) -> Result<Interfaces<'a>, OutOfMemory>
         ensures { IfOk result (λ t. OfferSameRows t (map iface_tree ifaces.now)) }
     {
-        let mut modules = IndexMap::new(alloc);
+        let mut modules = BTreeMap::new(alloc);
         // The last interface comes first, so that of two of one module the first stays.
         for i in (0..ifaces.len()).rev() {
             let iface = &ifaces[i];

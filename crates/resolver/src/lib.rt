@@ -15,6 +15,3 @@ mod tops;
 mod uses;
 
 pub use resolve::{exported_interface, resolve_module};
-
-#[cfg(test)]
-mod tests;

@@ -12,11 +12,11 @@ ghost use Rattle.resolver.specs.TakenRows.{use_of};
 use crate::interfaces::{Interfaces, copy_row};
 use core_tree::Use;
 use iface_text::{Iface, Row};
-use indexmap::{IndexMap, IndexSet};
 use module_head::{Head, Import};
 use name_table::NameTable;
 use scheme_data::{List, OutOfMemory, Text};
 use std::alloc::Global;
+use std::collections::{BTreeMap, BTreeSet};
 
 /// A row of another module that is imported, and whether it is called.
 #[derive(Clone, Copy)]
@@ -41,7 +41,7 @@ impl<'a> Taken<'a> {
 }
 
 /// The modules from which names are imported, each found by the name.
-type ModulesByName<'a> = IndexMap<&'a [u8], &'a Text>;
+type ModulesByName<'a> = BTreeMap<&'a [u8], &'a Text>;
 
 /// The modules of imported names. Of two items that have one name the first counts.
 fn modules_by_name<'a>(
@@ -50,7 +50,7 @@ fn modules_by_name<'a>(
 ) -> Result<ModulesByName<'a>, OutOfMemory>
     ensures { IfOk result (λ t. HasModules t.entries (map import_tree imports.now)) }
 {
-    let mut modules = IndexMap::new(alloc);
+    let mut modules = BTreeMap::new(alloc);
     // The last item comes first, so that of two with one name the first stays.
     for i in (0..imports.len()).rev() {
         add_item(&mut modules, &imports[i])?;
@@ -137,7 +137,7 @@ fn add_all_needs<'a>(
 fn each_once(alloc: Global, taken: &[Taken<'_>]) -> Result<List<Use>, OutOfMemory>
     ensures { IfOk result (λ us. us ≡ with_first same_use [] (map use_of taken.now)) }
 {
-    let mut seen = IndexSet::new(alloc);
+    let mut seen = BTreeSet::new(alloc);
     let mut uses = List::new(alloc);
     for t in taken {
         if !seen.insert((t.module_name.as_bytes(), t.row.name.as_bytes()))? {

@@ -11,6 +11,7 @@ use Rattle.scheme_data.proofs.SymbolTests.{symbol_of_form}
 use Rattle.scheme_data.specs.declared.datum.Place.{Place}
 use Rattle.scheme_data.specs.declared.datum.Datum.{Datum}
 use Rattle.scheme_data.specs.declared.datum.Datum.TheVariants as datum
+use Rattle.scheme_data.specs.Names.{is_same}
 use Rattle.scheme_tokens.specs.declared.lex.Lexeme.{Lexeme}
 use Rattle.scheme_tokens.specs.declared.lex.Lexeme.TheVariants as lexed
 use Rattle.scheme_tokens.specs.declared.token.Atom.{Atom}
@@ -19,7 +20,7 @@ use Rattle.scheme_tokens.specs.declared.token.Token.{Token}
 use Rattle.scheme_tokens.specs.declared.token.Word.{Word}
 use Rattle.scheme_tokens.specs.declared.token.Word.TheVariants as word
 use Rattle.scheme_tokens.specs.Comments.{not_newline, comment_len}
-use Rattle.scheme_tokens.specs.Hashes.{is_word, constant_word, named_byte, byte_word, character_word, character_lexeme, comment_of, block_lexeme, constant_lexeme, hash_lexeme}
+use Rattle.scheme_tokens.specs.Hashes.{constant_word, named_byte, byte_word, character_word, character_lexeme, comment_of, block_lexeme, constant_lexeme, hash_lexeme}
 use Rattle.scheme_tokens.specs.Lexemes.{lexeme, mark_word}
 use Rattle.scheme_tokens.specs.Places.{after, start}
 use Rattle.scheme_tokens.specs.Strings.{escaped_byte, is_escaping, part, spelled_len, unescaped, string_of, string_lexeme}
@@ -144,7 +145,7 @@ unfolding string_lexeme
 string_front rest h = proper_string rest (spelled_len false rest) h
 
 proper_named : (name : List ℕ) → IsProperWord (byte_word (named_byte name))
-proper_named name = go (is_word name (codes "space")) (is_word name (codes "newline")) (is_word name (codes "tab")) (is_word name (codes "return")) (is_word name (codes "null"))
+proper_named name = go (is_same name (codes "space")) (is_same name (codes "newline")) (is_same name (codes "tab")) (is_same name (codes "return")) (is_same name (codes "null"))
   where
     go : (s n t r z : Bool) → IsProperWord (byte_word (if s then Some 32 else (if n then Some 10 else (if t then Some 9 else (if r then Some 13 else (if z then Some 0 else None))))))
     go true n t r z = refl
@@ -164,7 +165,7 @@ character_front [] h = tt
 character_front (b ∷ bs) h = proper_character b (take_while is_symbol_byte bs) (first_of_two (is_byte b) _ h)
 
 proper_constant : (name : List ℕ) → IsProperWord (constant_word name)
-proper_constant name = go (is_word name (codes "t")) (is_word name (codes "f")) (is_word name (codes "unspecified"))
+proper_constant name = go (is_same name (codes "t")) (is_same name (codes "f")) (is_same name (codes "unspecified"))
   where
     go : (t f u : Bool) → IsProperWord (if t then word.Atom (atom.Bool true) else (if f then word.Atom (atom.Bool false) else (if u then word.Atom atom.Unspec else word.Bad)))
     go true f u = tt

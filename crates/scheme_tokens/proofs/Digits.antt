@@ -2,8 +2,8 @@
 use Rattle.std.proofs.Common.{◌≡◌, ℕ, ◌+◌, ◌-◌, ◌*◌, ◌<◌, ◌≤◌, min, true, false, ◌&&◌, List, [], ◌∷◌, length, drop, get_or, Some, None, refl, sym, ap, ◌∙◌, arith}
 use Rattle.std.proofs.lemmas.List.{drop_more, drop_all}
 use Rattle.std.specs.List.{list_all}
-use Rattle.scheme_data.specs.Decimal.{is_digit}
-use Rattle.scheme_tokens.specs.Words.{are_digits, digits_value}
+use Rattle.scheme_data.specs.Decimal.{is_digit, digits_value}
+use Rattle.scheme_tokens.specs.Words.{are_digits}
 use Rattle.scheme_tokens.specs.Digits.{capped_digits}
 
 abbrev cap : ℕ

@@ -3,6 +3,7 @@ use Rattle.std.specs.Prelude.{ℕ, ◌+◌, List, [], ◌∷◌, codes, nat_eq, 
 use Rattle.std.specs.Cmp.Lexicographic.{pointwise}
 use Rattle.std.specs.List.{prefix_len, take_while}
 use Rattle.scheme_data.specs.Symbols.{is_symbol_byte}
+use Rattle.scheme_data.specs.Names.{is_same}
 use Rattle.scheme_tokens.specs.declared.lex.Lexeme.{Lexeme}
 use Rattle.scheme_tokens.specs.declared.lex.Lexeme.TheVariants as lexed
 use Rattle.scheme_tokens.specs.declared.token.Atom.TheVariants as atom
@@ -10,24 +11,21 @@ use Rattle.scheme_tokens.specs.declared.token.Word.{Word}
 use Rattle.scheme_tokens.specs.declared.token.Word.TheVariants as word
 use Rattle.scheme_tokens.specs.Comments.{comment_len}
 
-abbrev pub is_word : List ℕ → List ℕ → Bool
-is_word name spelling = pointwise nat_eq name spelling
-
 -- the constant of this name after `#`
 abbrev pub constant_word : List ℕ → Word
 constant_word name =
-    if is_word name (codes "t") then word.Atom (atom.Bool true)
-    else (if is_word name (codes "f") then word.Atom (atom.Bool false)
-    else (if is_word name (codes "unspecified") then word.Atom atom.Unspec else word.Bad))
+    if is_same name (codes "t") then word.Atom (atom.Bool true)
+    else (if is_same name (codes "f") then word.Atom (atom.Bool false)
+    else (if is_same name (codes "unspecified") then word.Atom atom.Unspec else word.Bad))
 
 -- the character of this name after `#\`
 abbrev pub named_byte : List ℕ → Option ℕ
 named_byte name =
-    if is_word name (codes "space") then Some 32
-    else (if is_word name (codes "newline") then Some 10
-    else (if is_word name (codes "tab") then Some 9
-    else (if is_word name (codes "return") then Some 13
-    else (if is_word name (codes "null") then Some 0 else None))))
+    if is_same name (codes "space") then Some 32
+    else (if is_same name (codes "newline") then Some 10
+    else (if is_same name (codes "tab") then Some 9
+    else (if is_same name (codes "return") then Some 13
+    else (if is_same name (codes "null") then Some 0 else None))))
 
 abbrev pub byte_word : Option ℕ → Word
 byte_word None = word.Bad

@@ -1,7 +1,7 @@
 -- What a run of symbol bytes is: a fixnum, a dot, a symbol, or none of these.
 use Rattle.std.specs.Prelude.{ℕ, zero, suc, ◌+◌, ◌-◌, ◌*◌, ℤ, pos, negsuc, List, [], ◌∷◌, nat_eq, Bool, false, ◌&&◌, ◌||◌, if◌then◌else◌, Option, Some, None}
 use Rattle.std.specs.List.{list_all}
-use Rattle.scheme_data.specs.Decimal.{is_digit}
+use Rattle.scheme_data.specs.Decimal.{is_digit, digits_value}
 use Rattle.scheme_data.specs.Fixnum.{is_fixnum}
 use Rattle.scheme_data.specs.Symbols.{is_dot, has_symbol_form}
 use Rattle.scheme_tokens.specs.declared.token.Atom.TheVariants as atom
@@ -10,10 +10,6 @@ use Rattle.scheme_tokens.specs.declared.token.Word.TheVariants as word
 
 abbrev pub is_space : ℕ → Bool
 is_space b = nat_eq b 32 || (nat_eq b 10 || (nat_eq b 9 || (nat_eq b 12 || nat_eq b 13)))
-
-abbrev pub digits_value : ℕ → List ℕ → ℕ
-digits_value n [] = n
-digits_value n (d ∷ ds) = digits_value (10 * n + (d - 48)) ds
 
 abbrev pub negative : ℕ → ℤ
 negative zero = pos 0

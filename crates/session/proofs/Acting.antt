@@ -11,8 +11,11 @@ use Rattle.commands.specs.declared.command.Command.TheVariants.{Blank, Iface, Co
 use Rattle.session.specs.declared.answer.Refusal.{Refusal}
 use Rattle.session.specs.declared.answer.Effect.{Effect}
 use Rattle.session.specs.declared.answer.Effect.TheVariants.{Nothing, Wrote, Ran}
-use Rattle.session.specs.declared.answer.Halt.{Halt}
-use Rattle.session.specs.declared.answer.Halt.TheVariants.{NoFile, FileFault, WriteFault, Refused, Memory}
+use Rattle.session.specs.declared.errors.MakeErr.{MakeErr}
+use Rattle.session.specs.declared.errors.MakeErr.TheVariants as make
+use Rattle.session.specs.declared.errors.WorkErr.{WorkErr}
+use Rattle.session.specs.declared.errors.WorkErr.TheVariants.{WriteFault, Refused, Memory}
+use Rattle.session.specs.Halts.{work_of_make}
 use Rattle.session.specs.Works.{Kind, as_given, as_interface, as_object, as_program, Held, Stands, AllStand, bytes_of, reads_of, Gives, Refuses, RunMeans, TextRuns, no_input, printed}
 use Rattle.session.specs.Done.{ExportDid, CompileDid, LinkDid, TextRan, CutRun, Performs, Added}
 
@@ -40,8 +43,8 @@ cut_here c hs None = tt
 cut_here c hs (Some bytes) = ([], (inl refl, ap (λ (l : Bytes). Some l) (sym (append-nil bytes))))
 
 -- nothing was added, and memory ran out
-pub cut : (c : Command) (hs : List Held) (old : Option Bytes) (r : Result Effect Halt) → r ≡ Err Memory → Performs c hs old old r
-cut c hs old r is = subst (λ (x : Result Effect Halt). Performs c hs old old x) (sym is) (cut_here c hs old)
+pub cut : (c : Command) (hs : List Held) (old : Option Bytes) (r : Result Effect WorkErr) → r ≡ Err Memory → Performs c hs old old r
+cut c hs old r is = subst (λ (x : Result Effect WorkErr). Performs c hs old old x) (sym is) (cut_here c hs old)
 
 -- Blank -------------------------------------------------------------------------------------
 
@@ -56,32 +59,26 @@ blank_done c hs old is = subst (λ (x : Command). Performs x hs old old (Ok Noth
 -- Commands that make a file -----------------------------------------------------------------
 
 -- the command gives a file of this name with what was made, or refuses as its maker did
-pub record Makes (c : Command) (hs : List Held) (name : Bytes) (did : Result Bytes Halt → Type 0) : Type 0 where
+pub record Makes (c : Command) (hs : List Held) (name : Bytes) (did : Result Bytes MakeErr → Type 0) : Type 0 where
   pub gives : (text : Bytes) → did (Ok text) → Gives c hs [] (Wrote name text)
-  pub refuses : (r : Refusal) → did (Err (Refused r)) → Refuses c hs r
-  pub no_missing : (n : Bytes) → did (Err (NoFile n)) → ⊥
-  pub no_file_fault : (n : Bytes) → did (Err (FileFault n)) → ⊥
-  pub no_write_fault : did (Err WriteFault) → ⊥
+  pub refuses : (r : Refusal) → did (Err (make.Refused r)) → Refuses c hs r
 
-halts : (c : Command) (hs : List Held) (name : Bytes) (did : Result Bytes Halt → Type 0) (old : Option Bytes) (e : Halt) → Makes c hs name did → did (Err e) → Performs c hs old old (Err e)
+halts : (c : Command) (hs : List Held) (name : Bytes) (did : Result Bytes MakeErr → Type 0) (old : Option Bytes) (e : MakeErr) → Makes c hs name did → did (Err e) → Performs c hs old old (Err (work_of_make e))
 unfolding Performs
 halts c hs name did None e makes told = tt
-halts c hs name did (Some o) (Refused r) makes told = (makes.refuses r told, refl)
-halts c hs name did (Some o) Memory makes told = ([], (inl refl, ap (λ (l : Bytes). Some l) (sym (append-nil o))))
-halts c hs name did (Some o) (NoFile n) makes told = absurd (makes.no_missing n told)
-halts c hs name did (Some o) (FileFault n) makes told = absurd (makes.no_file_fault n told)
-halts c hs name did (Some o) WriteFault makes told = absurd (makes.no_write_fault told)
+halts c hs name did (Some o) (make.Refused r) makes told = (makes.refuses r told, refl)
+halts c hs name did (Some o) make.Memory makes told = ([], (inl refl, ap (λ (l : Bytes). Some l) (sym (append-nil o))))
 
 -- nothing was made
-pub stops : (c : Command) (hs : List Held) (name : Bytes) (did : Result Bytes Halt → Type 0) (old : Option Bytes) (r : Result Effect Halt) (e : Halt) → Makes c hs name did → did (Err e) → r ≡ Err e → Performs c hs old old r
-stops c hs name did old r e makes told is = subst (λ (x : Result Effect Halt). Performs c hs old old x) (sym is) (halts c hs name did old e makes told)
+pub stops : (c : Command) (hs : List Held) (name : Bytes) (did : Result Bytes MakeErr → Type 0) (old : Option Bytes) (r : Result Effect WorkErr) (e : MakeErr) → Makes c hs name did → did (Err e) → r ≡ Err (work_of_make e) → Performs c hs old old r
+stops c hs name did old r e makes told is = subst (λ (x : Result Effect WorkErr). Performs c hs old old x) (sym is) (halts c hs name did old e makes told)
 
 made_here : (c : Command) (hs : List Held) (name text : Bytes) (old : Option Bytes) → Gives c hs [] (Wrote name text) → Performs c hs old old (Ok (Wrote name text))
 unfolding Performs
 made_here c hs name text None gives = tt
 made_here c hs name text (Some o) gives = ([], (gives, ap (λ (l : Bytes). Some l) (sym (append-nil o))))
 
-pub made : (c : Command) (hs : List Held) (name copy text : Bytes) (did : Result Bytes Halt → Type 0) (old : Option Bytes) → Makes c hs name did → copy ≡ name → did (Ok text) → Performs c hs old old (Ok (Wrote copy text))
+pub made : (c : Command) (hs : List Held) (name copy text : Bytes) (did : Result Bytes MakeErr → Type 0) (old : Option Bytes) → Makes c hs name did → copy ≡ name → did (Ok text) → Performs c hs old old (Ok (Wrote copy text))
 made c hs name copy text did old makes is told = subst (λ (x : Bytes). Performs c hs old old (Ok (Wrote x text))) (sym is) (made_here c hs name text old (makes.gives text told))
 
 exports : (s n : Bytes) (h : Held) (rest : List Held) → Makes (Iface s n) (h ∷ rest) n (λ r. ExportDid h.bytes r)
@@ -89,9 +86,6 @@ unfolding Gives Refuses
 exports s n h rest = record {
   gives = λ text told. (refl, (text, (refl, told)));
   refuses = λ r told. told;
-  no_missing = λ x told. told;
-  no_file_fault = λ x told. told;
-  no_write_fault = λ told. told;
 }
 
 pub export_makes : (c : Command) (s n : Bytes) (hs : List Held) (text : Bytes) (rest : List Bytes) → c ≡ Iface s n → First hs text rest → Makes c hs n (λ r. ExportDid text r)
@@ -106,9 +100,6 @@ unfolding Gives Refuses
 compiles s n ifaces h rest = record {
   gives = λ text told. (refl, (text, (refl, told)));
   refuses = λ r told. told;
-  no_missing = λ x told. told;
-  no_file_fault = λ x told. told;
-  no_write_fault = λ told. told;
 }
 
 pub compile_makes : (c : Command) (s n : Bytes) (ifaces : List Bytes) (hs : List Held) (text : Bytes) (rest texts : List Bytes) → c ≡ Compile s n ifaces → First hs text rest → texts ≡ rest → Makes c hs n (λ r. CompileDid text texts r)
@@ -124,9 +115,6 @@ unfolding Gives Refuses
 links n objects hs = record {
   gives = λ text told. (refl, (text, (refl, told)));
   refuses = λ r told. told;
-  no_missing = λ x told. told;
-  no_file_fault = λ x told. told;
-  no_write_fault = λ told. told;
 }
 
 pub link_makes : (c : Command) (n : Bytes) (objects texts : List Bytes) (hs : List Held) → c ≡ Link n objects → bytes_of hs ≡ texts → Makes c hs n (λ r. LinkDid texts r)
@@ -148,7 +136,7 @@ run_means (as_program compilations) bytes args turns seen stands runs = record {
 }
 
 -- the effect of a run
-abbrev pub effect_of : Result End Halt → Result Effect Halt
+abbrev pub effect_of : Result End WorkErr → Result Effect WorkErr
 effect_of (Ok end) = Ok (Ran end)
 effect_of (Err h) = Err h
 
@@ -158,7 +146,7 @@ run_cut p turns args h rest o new stands told =
     let part = told.1.1 in
     (part.added, (inr (part.rest, (Ran told.0.end, (told.0, (run_means h.kind h.bytes (p ∷ args) turns told.0 stands told.1.0, sym part.is, refl)))), part.written))
 
-run_performs : (p : Bytes) (turns : ℕ) (args : List Bytes) (h : Held) (rest : List Held) (old new : Option Bytes) (r : Result End Halt) → Stands h.kind h.bytes → TextRan old new h.bytes (p ∷ args) turns r → Performs (Run p turns args) (h ∷ rest) old new (effect_of r)
+run_performs : (p : Bytes) (turns : ℕ) (args : List Bytes) (h : Held) (rest : List Held) (old new : Option Bytes) (r : Result End WorkErr) → Stands h.kind h.bytes → TextRan old new h.bytes (p ∷ args) turns r → Performs (Run p turns args) (h ∷ rest) old new (effect_of r)
 unfolding Performs Gives Refuses
 run_performs p turns args h rest None new (Ok end) stands told = tt
 run_performs p turns args h rest None new (Err e) stands told = tt
@@ -168,17 +156,15 @@ run_performs p turns args h rest (Some o) new (Err (Refused r)) stands told = ((
 run_performs p turns args h rest (Some o) new (Err WriteFault) stands told = run_cut p turns args h rest o new stands told
 run_performs p turns args h rest (Some o) new (Err Memory) stands (inl same) = ([], (inl refl, same ∙ ap (λ (l : Bytes). Some l) (sym (append-nil o))))
 run_performs p turns args h rest (Some o) new (Err Memory) stands (inr told) = run_cut p turns args h rest o new stands told
-run_performs p turns args h rest (Some o) new (Err (NoFile n)) stands told = absurd told
-run_performs p turns args h rest (Some o) new (Err (FileFault n)) stands told = absurd told
 
-pub run_done : (c : Command) (p : Bytes) (turns : ℕ) (args words : List Bytes) (hs : List Held) (text : Bytes) (others : List Bytes) (old new : Option Bytes) (r : Result End Halt) (x : Result Effect Halt) → c ≡ Run p turns args → words ≡ p ∷ args → First hs text others → AllStand hs → TextRan old new text words turns r → x ≡ effect_of r → Performs c hs old new x
+pub run_done : (c : Command) (p : Bytes) (turns : ℕ) (args words : List Bytes) (hs : List Held) (text : Bytes) (others : List Bytes) (old new : Option Bytes) (r : Result End WorkErr) (x : Result Effect WorkErr) → c ≡ Run p turns args → words ≡ p ∷ args → First hs text others → AllStand hs → TextRan old new text words turns r → x ≡ effect_of r → Performs c hs old new x
 run_done c p turns args words hs text others old new r x c_is words_are first all told x_is =
     let of_words : TextRan old new text (p ∷ args) turns r = subst (λ (l : List Bytes). TextRan old new text l turns r) words_are told in
     let at_head : TextRan old new first.head.bytes (p ∷ args) turns r = subst (λ (b : Bytes). TextRan old new b (p ∷ args) turns r) (sym first.bytes_are) of_words in
     let stands = (subst (λ (l : List Held). AllStand l) first.is all).0 in
     subst (λ (y : Command). Performs y hs old new x) (sym c_is)
     (subst (λ (l : List Held). Performs (Run p turns args) l old new x) (sym first.is)
-    (subst (λ (y : Result Effect Halt). Performs (Run p turns args) (first.head ∷ first.others) old new y) (sym x_is)
+    (subst (λ (y : Result Effect WorkErr). Performs (Run p turns args) (first.head ∷ first.others) old new y) (sym x_is)
     (run_performs p turns args first.head first.others old new r stands at_head)))
 
 -- What was read, as the code has it ---------------------------------------------------------

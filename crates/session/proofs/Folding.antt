@@ -1,5 +1,5 @@
 -- The lines of a script, one after another.
-use Rattle.std.proofs.Common.{◌≡◌, ℕ, zero, suc, ◌+◌, ◌≤◌, ◌<◌, List, [], ◌∷◌, ◌++◌, map, take, drop, get_or, length, Option, Some, None, Ok, Err, refl, ap, sym, ◌∙◌, arith, subst, unwrap_or, add-one}
+use Rattle.std.proofs.Common.{◌≡◌, Result, ℕ, zero, suc, ◌+◌, ◌≤◌, ◌<◌, List, [], ◌∷◌, ◌++◌, map, take, drop, get_or, length, Option, Some, None, Ok, Err, refl, ap, sym, ◌∙◌, arith, subst, unwrap_or, add-one}
 use Rattle.std.proofs.lemmas.List.{append-nil, drop_all}
 use Rattle.std.specs.Ordering.{nat_cmp}
 use Rattle.std.specs.Cmp.Lexicographic.{slice_cmp}
@@ -11,12 +11,11 @@ use Rattle.commands.specs.Commands.{parsed}
 use Rattle.commands.specs.declared.command.Command.{Command}
 use Rattle.session.specs.declared.answer.Effect.{Effect}
 use Rattle.session.specs.declared.answer.Effect.TheVariants.{Nothing, Wrote, Ran}
-use Rattle.session.specs.declared.answer.Halt.{Halt}
-use Rattle.session.specs.declared.answer.Halt.TheVariants.{NoFile, FileFault, WriteFault, Refused, Memory}
+use Rattle.session.specs.declared.errors.Halt.{Halt}
 use Rattle.session.specs.declared.answer.Answer.{Answer}
 use Rattle.session.specs.declared.answer.Answer.TheVariants as answer
 use Rattle.session.specs.Works.{Kind, as_given, Stands}
-use Rattle.session.specs.Scripts.{State, start, after, Steps, Reaches, Kept, Agrees, LineDid, finished, bad_line, halted, no_memory, ScriptDid, answer_of}
+use Rattle.session.specs.Scripts.{State, start, after, Steps, Reaches, Kept, Agrees, LineDid, finished, bad_line, halted, no_memory, ScriptDid, answer_of, answer_of_line}
 
 abbrev Lines : Type 0
 Lines = List (Option Command)
@@ -75,18 +74,18 @@ so_far_start lines contents written ends none = λ m source base c_is w_is.
     }
 
 -- the element at a place
-pub record Place {A : Type 0} (xs : List A) (i : ℕ) (x : A) : Type 0 where
+pub record IsAt {A : Type 0} (xs : List A) (i : ℕ) (x : A) : Type 0 where
   pub front : take (i + 1) xs ≡ take i xs ++ x ∷ []
   pub back : drop i xs ≡ x ∷ drop (suc i) xs
 
-pub place_of : {A B : Type 0} (f : A → B) (xs : List A) (i : ℕ) (x : A) → i < length xs → x ≡ get_or xs i x → Place (map f xs) i (f x)
-place_of f [] i x below is = absurd (omega arith)
-place_of f (y ∷ xs) zero x below is = record { front = ap (λ a. a ∷ []) (ap f (sym is)); back = ap (λ a. a ∷ map f xs) (ap f (sym is)) }
-place_of f (y ∷ xs) (suc i) x below is =
-    let rest = place_of f xs i x (omega arith) is in
+pub is_at : {A B : Type 0} (f : A → B) (xs : List A) (i : ℕ) (x : A) → i < length xs → x ≡ get_or xs i x → IsAt (map f xs) i (f x)
+is_at f [] i x below is = absurd (omega arith)
+is_at f (y ∷ xs) zero x below is = record { front = ap (λ a. a ∷ []) (ap f (sym is)); back = ap (λ a. a ∷ map f xs) (ap f (sym is)) }
+is_at f (y ∷ xs) (suc i) x below is =
+    let rest = is_at f xs i x (omega arith) is in
     record { front = rw add-one (ap (λ l. f y ∷ l) (rw add-one at rest.front)); back = rest.back }
 
-pub so_far_more : (lines : Lines) (contents : Option Contents) (written : Option Bytes) (count : ℕ) (c1 : Option Contents) (w1 : Option Bytes) (e1 : List End) (c2 : Option Contents) (w2 : Option Bytes) (e2 : List End) (c : Command) → Place lines count (Some c) → ScriptSoFar lines contents written count c1 w1 e1 → ((s : State) (base : Bytes) → Agrees s base c1 w1 e1 → LineDid c s (Ok tt) base c2 w2 e2) → ScriptSoFar lines contents written (count + 1) c2 w2 e2
+pub so_far_more : (lines : Lines) (contents : Option Contents) (written : Option Bytes) (count : ℕ) (c1 : Option Contents) (w1 : Option Bytes) (e1 : List End) (c2 : Option Contents) (w2 : Option Bytes) (e2 : List End) (c : Command) → IsAt lines count (Some c) → ScriptSoFar lines contents written count c1 w1 e1 → ((s : State) (base : Bytes) → Agrees s base c1 w1 e1 → LineDid c s (Ok tt) base c2 w2 e2) → ScriptSoFar lines contents written (count + 1) c2 w2 e2
 unfolding ScriptSoFar LineDid
 so_far_more lines contents written count c1 w1 e1 c2 w2 e2 c place so_far did = λ m source base c_is w_is.
     let before = so_far m source base c_is w_is in
@@ -116,7 +115,7 @@ script_finished lines contents written count c1 w1 e1 all so_far = λ m source b
       last = finished (drop_all count lines (at_least count (length lines) all)) (ap (λ (e : List End). answer.Done e) now.agrees.ends_are) now.agrees.same;
     }
 
-pub script_bad : (lines : Lines) (contents : Option Contents) (written : Option Bytes) (count : ℕ) (c1 : Option Contents) (w1 : Option Bytes) (e1 : List End) (a : Answer) → count < length lines → Place lines count None → a ≡ answer.BadLine (count + 1) → ScriptSoFar lines contents written count c1 w1 e1 → Told lines contents written a c1 w1
+pub script_bad : (lines : Lines) (contents : Option Contents) (written : Option Bytes) (count : ℕ) (c1 : Option Contents) (w1 : Option Bytes) (e1 : List End) (a : Answer) → count < length lines → IsAt lines count None → a ≡ answer.BadLine (count + 1) → ScriptSoFar lines contents written count c1 w1 e1 → Told lines contents written a c1 w1
 unfolding ScriptSoFar
 script_bad lines contents written count c1 w1 e1 a below place a_is so_far = λ m source base c_is w_is.
     let now = so_far m source base c_is w_is in
@@ -128,7 +127,7 @@ script_no_memory lines contents written count c1 w1 e1 below so_far = λ m sourc
     let now = so_far m source base c_is w_is in
     record { count = count; few = below; state = now.state; reached = now.reached; kept = now.agrees.kept; left_is = now.left_is; last = no_memory refl now.agrees.same }
 
-pub script_halted : (lines : Lines) (contents : Option Contents) (written : Option Bytes) (count : ℕ) (c1 : Option Contents) (w1 : Option Bytes) (e1 : List End) (c2 : Option Contents) (w2 : Option Bytes) (e2 : List End) (c : Command) (h : Halt) (a : Answer) → count < length lines → Place lines count (Some c) → a ≡ answer_of h (count + 1) → ScriptSoFar lines contents written count c1 w1 e1 → ((s : State) (base : Bytes) → Agrees s base c1 w1 e1 → LineDid c s (Err h) base c2 w2 e2) → Told lines contents written a c2 w2
+pub script_halted : (lines : Lines) (contents : Option Contents) (written : Option Bytes) (count : ℕ) (c1 : Option Contents) (w1 : Option Bytes) (e1 : List End) (c2 : Option Contents) (w2 : Option Bytes) (e2 : List End) (c : Command) (h : Halt) (a : Answer) → count < length lines → IsAt lines count (Some c) → a ≡ answer_of h (count + 1) → ScriptSoFar lines contents written count c1 w1 e1 → ((s : State) (base : Bytes) → Agrees s base c1 w1 e1 → LineDid c s (Err h) base c2 w2 e2) → Told lines contents written a c2 w2
 unfolding ScriptSoFar LineDid
 script_halted lines contents written count c1 w1 e1 c2 w2 e2 c h a below place a_is so_far did = λ m source base c_is w_is.
     let now = so_far m source base c_is w_is in
@@ -145,65 +144,21 @@ in_parsed lines i below = omega (arith, length_parsed lines)
 pub all_parsed : (lines : List Bytes) (i : ℕ) → i ≡ length lines → i ≡ length (map parsed lines)
 all_parsed lines i all = omega (arith, length_parsed lines)
 
-pub here_is : (lines : List Bytes) (i : ℕ) (line bytes : Bytes) (x : Option Command) → i < length lines → line ≡ get_or lines i line → bytes ≡ line → x ≡ parsed bytes → Place (map parsed lines) i x
-here_is lines i line bytes x below is same x_is = subst (λ (o : Option Command). Place (map parsed lines) i o) (sym (x_is ∙ ap parsed same)) (place_of parsed lines i line below is)
-
--- The causes of answers ---------------------------------------------------------------------
-
-pub file_fault_of : (h : Halt) (k : ℕ) (n : Bytes) → answer_of h k ≡ answer.FileFault n → h ≡ FileFault n
-file_fault_of (FileFault m) k n e = let same : m ≡ n = cc in ap (λ (x : Bytes). FileFault x) same
-file_fault_of (NoFile m) k n e = cc
-file_fault_of WriteFault k n e = cc
-file_fault_of (Refused r) k n e = cc
-file_fault_of Memory k n e = cc
-
-pub write_fault_of : (h : Halt) (k : ℕ) → answer_of h k ≡ answer.WriteFault → h ≡ WriteFault
-write_fault_of (FileFault m) k e = cc
-write_fault_of (NoFile m) k e = cc
-write_fault_of WriteFault k e = refl
-write_fault_of (Refused r) k e = cc
-write_fault_of Memory k e = cc
-
-pub no_usage_of : (h : Halt) (k : ℕ) → answer_of h k ≡ answer.Usage → ⊥
-no_usage_of (FileFault m) k e = cc
-no_usage_of (NoFile m) k e = cc
-no_usage_of WriteFault k e = cc
-no_usage_of (Refused r) k e = cc
-no_usage_of Memory k e = cc
-
-pub no_bad_line_of : (h : Halt) (k n : ℕ) → answer_of h k ≡ answer.BadLine n → ⊥
-no_bad_line_of (FileFault m) k n e = cc
-no_bad_line_of (NoFile m) k n e = cc
-no_bad_line_of WriteFault k n e = cc
-no_bad_line_of (Refused r) k n e = cc
-no_bad_line_of Memory k n e = cc
-
-pub no_read_fault_of : (h : Halt) (k : ℕ) → answer_of h k ≡ answer.ReadFault → ⊥
-no_read_fault_of (FileFault m) k e = cc
-no_read_fault_of (NoFile m) k e = cc
-no_read_fault_of WriteFault k e = cc
-no_read_fault_of (Refused r) k e = cc
-no_read_fault_of Memory k e = cc
-
-pub no_long_input_of : (h : Halt) (k : ℕ) → answer_of h k ≡ answer.InputLong → ⊥
-no_long_input_of (FileFault m) k e = cc
-no_long_input_of (NoFile m) k e = cc
-no_long_input_of WriteFault k e = cc
-no_long_input_of (Refused r) k e = cc
-no_long_input_of Memory k e = cc
+pub here_is : (lines : List Bytes) (i : ℕ) (line bytes : Bytes) (x : Option Command) → i < length lines → line ≡ get_or lines i line → bytes ≡ line → x ≡ parsed bytes → IsAt (map parsed lines) i x
+here_is lines i line bytes x below is same x_is = subst (λ (o : Option Command). IsAt (map parsed lines) i o) (sym (x_is ∙ ap parsed same)) (is_at parsed lines i line below is)
 
 pub rose_since : (a b c : ℕ) → a ≤ b → Rose b c → Rose a c
 rose_since a b c later rose = omega arith
 
 -- One command -------------------------------------------------------------------------------
 
-one_place : (c : Command) → Place (Some c ∷ []) 0 (Some c)
-one_place c = record { front = refl; back = refl }
+one_at : (c : Command) → IsAt (Some c ∷ []) 0 (Some c)
+one_at c = record { front = refl; back = refl }
 
 pub one_done : (c : Command) (contents : Option Contents) (written : Option Bytes) (e1 : List End) (c2 : Option Contents) (w2 : Option Bytes) (e2 : List End) → e1 ≡ [] → ((s : State) (base : Bytes) → Agrees s base contents written e1 → LineDid c s (Ok tt) base c2 w2 e2) → Told (Some c ∷ []) contents written (answer.Done e2) c2 w2
 one_done c contents written e1 c2 w2 e2 ends did =
-    script_finished (Some c ∷ []) contents written 1 c2 w2 e2 refl (so_far_more (Some c ∷ []) contents written 0 contents written e1 c2 w2 e2 c (one_place c) (so_far_start (Some c ∷ []) contents written e1 ends) did)
+    script_finished (Some c ∷ []) contents written 1 c2 w2 e2 refl (so_far_more (Some c ∷ []) contents written 0 contents written e1 c2 w2 e2 c (one_at c) (so_far_start (Some c ∷ []) contents written e1 ends) did)
 
-pub one_halted : (c : Command) (contents : Option Contents) (written : Option Bytes) (e1 : List End) (c2 : Option Contents) (w2 : Option Bytes) (e2 : List End) (h : Halt) (a : Answer) → e1 ≡ [] → a ≡ answer_of h 1 → ((s : State) (base : Bytes) → Agrees s base contents written e1 → LineDid c s (Err h) base c2 w2 e2) → Told (Some c ∷ []) contents written a c2 w2
-one_halted c contents written e1 c2 w2 e2 h a ends a_is did =
-    script_halted (Some c ∷ []) contents written 0 contents written e1 c2 w2 e2 c h a (omega arith) (one_place c) a_is (so_far_start (Some c ∷ []) contents written e1 ends) did
+pub one_halted : (c : Command) (contents : Option Contents) (written : Option Bytes) (e1 : List End) (c2 : Option Contents) (w2 : Option Bytes) (e2 : List End) (h : Halt) (r : Result (List End) Halt) → e1 ≡ [] → r ≡ Err h → ((s : State) (base : Bytes) → Agrees s base contents written e1 → LineDid c s (Err h) base c2 w2 e2) → Told (Some c ∷ []) contents written (answer_of_line r) c2 w2
+one_halted c contents written e1 c2 w2 e2 h r ends r_is did =
+    script_halted (Some c ∷ []) contents written 0 contents written e1 c2 w2 e2 c h (answer_of_line r) (omega arith) (one_at c) (ap answer_of_line r_is) (so_far_start (Some c ∷ []) contents written e1 ends) did

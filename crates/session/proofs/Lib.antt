@@ -1,8 +1,7 @@
 pub mod Acting
-pub mod Decimals
 pub mod Folding
 pub mod Lines
-pub mod Putting
+pub mod Pieces
 pub mod Reading
 pub mod Runs
 pub mod Top

@@ -13,8 +13,15 @@ use Rattle.commands.specs.declared.command.Command.{Command}
 use Rattle.commands.specs.declared.command.Command.TheVariants.{Blank, Iface, Compile, Link, Run}
 use Rattle.session.specs.declared.answer.Effect.{Effect}
 use Rattle.session.specs.declared.answer.Effect.TheVariants.{Nothing, Wrote, Ran}
-use Rattle.session.specs.declared.answer.Halt.{Halt}
-use Rattle.session.specs.declared.answer.Halt.TheVariants.{NoFile, FileFault, WriteFault, Refused, Memory}
+use Rattle.session.specs.declared.errors.Halt.{Halt}
+use Rattle.session.specs.declared.errors.Halt.TheVariants.{Memory}
+use Rattle.session.specs.declared.errors.ReadErr.{ReadErr}
+use Rattle.session.specs.declared.errors.ReadErr.TheVariants as read
+use Rattle.session.specs.declared.errors.WorkErr.{WorkErr}
+use Rattle.session.specs.declared.errors.WorkErr.TheVariants as work
+use Rattle.session.specs.declared.errors.WriteErr.{WriteErr}
+use Rattle.session.specs.declared.errors.WriteErr.TheVariants as write
+use Rattle.session.specs.Halts.{halt_of_read, halt_of_work, halt_of_write}
 use Rattle.session.specs.Works.{Kind, as_given, as_interface, as_object, as_program, Held, Stands, AllStand, bytes_of, Gives, MayAdd, reads_of, writes_of, kind_of_work, kind_of_linked, kind_of_joined, compilation_of, compilations_of, onto_compilations}
 use Rattle.session.specs.Outside.{missing, ReadAll, WroteOne}
 use Rattle.session.specs.Done.{Performs}
@@ -110,22 +117,18 @@ pub line_no_memory : (c : Command) (s : State) (base : Bytes) (contents : Option
 unfolding LineDid Stops Remains
 line_no_memory c s base contents written ends' same = (tt, uncut c s base contents written same)
 
-pub line_no_files : (c : Command) (s : State) (base : Bytes) (contents : Option Contents) (written : Option Bytes) (ends' : List End) (names : List Bytes) (h : Halt) → Same s base contents written → names ≡ reads_of c → ReadAll (Some s.files) names (Err h) → LineDid c s (Err h) base contents written ends'
+pub line_no_files : (c : Command) (s : State) (base : Bytes) (contents : Option Contents) (written : Option Bytes) (ends' : List End) (names : List Bytes) (e : ReadErr) → Same s base contents written → names ≡ reads_of c → ReadAll (Some s.files) names (Err e) → LineDid c s (Err (halt_of_read e)) base contents written ends'
 unfolding LineDid Stops Remains
-line_no_files c s base contents written ends' names (NoFile n) same are told = (ap (λ (l : List Bytes). missing s.files l) (sym are) ∙ told, same)
-line_no_files c s base contents written ends' names (FileFault n) same are told = (inl (subst (λ (l : List Bytes). Contains l n) are told), uncut c s base contents written same)
-line_no_files c s base contents written ends' names Memory same are told = (tt, uncut c s base contents written same)
-line_no_files c s base contents written ends' names WriteFault same are told = absurd told
-line_no_files c s base contents written ends' names (Refused r) same are told = absurd told
+line_no_files c s base contents written ends' names (read.NoFile n) same are told = (ap (λ (l : List Bytes). missing s.files l) (sym are) ∙ told, same)
+line_no_files c s base contents written ends' names (read.FileFault n) same are told = (inl (subst (λ (l : List Bytes). Contains l n) are told), uncut c s base contents written same)
+line_no_files c s base contents written ends' names read.Memory same are told = (tt, uncut c s base contents written same)
 
 -- the command was refused or cut off
-pub line_not_performed : (c : Command) (s : State) (base : Bytes) (contents : Option Contents) (written' : Option Bytes) (ends' : List End) (h : Halt) → contents ≡ Some s.files → missing s.files (reads_of c) ≡ None → Performs c (map (held s) (reads_of c)) (Some (base ++ s.output)) written' (Err h) → LineDid c s (Err h) base contents written' ends'
+pub line_not_performed : (c : Command) (s : State) (base : Bytes) (contents : Option Contents) (written' : Option Bytes) (ends' : List End) (e : WorkErr) → contents ≡ Some s.files → missing s.files (reads_of c) ≡ None → Performs c (map (held s) (reads_of c)) (Some (base ++ s.output)) written' (Err e) → LineDid c s (Err (halt_of_work e)) base contents written' ends'
 unfolding LineDid Stops Remains Performs
-line_not_performed c s base contents written' ends' (Refused r) files there told = ((there, told.0), record { files_are = files; written_is = told.1 })
-line_not_performed c s base contents written' ends' WriteFault files there told = (tt, record { files_are = untouched_files (writes_of c) s.files contents files; added = told.0; part = told.1.0; written_is = told.1.1 })
-line_not_performed c s base contents written' ends' Memory files there told = (tt, record { files_are = untouched_files (writes_of c) s.files contents files; added = told.0; part = told.1.0; written_is = told.1.1 })
-line_not_performed c s base contents written' ends' (NoFile n) files there told = absurd told
-line_not_performed c s base contents written' ends' (FileFault n) files there told = absurd told
+line_not_performed c s base contents written' ends' (work.Refused r) files there told = ((there, told.0), record { files_are = files; written_is = told.1 })
+line_not_performed c s base contents written' ends' work.WriteFault files there told = (tt, record { files_are = untouched_files (writes_of c) s.files contents files; added = told.0; part = told.1.0; written_is = told.1.1 })
+line_not_performed c s base contents written' ends' work.Memory files there told = (tt, record { files_are = untouched_files (writes_of c) s.files contents files; added = told.0; part = told.1.0; written_is = told.1.1 })
 
 -- a name that is written is as is then known of it, and all others stay as they are
 kept_write : (s : State) (name bytes : Bytes) (kind : Kind) (other : Bytes) → Kept s → Stands kind bytes → Stands (unwrap_or (get (insert s.kinds name kind) other) as_given) (unwrap_or (get (insert s.files name bytes) other) [])
@@ -160,8 +163,13 @@ whole c s base written effect w = inr ([], (effect, subst (λ (l : Bytes). Gives
 steps_of : (c : Command) (s : State) (base : Bytes) (written : Option Bytes) (effect : Effect) (w : Worked c s base written effect) → Steps c s (after (kind_of_work c (map (held s) (reads_of c))) w.added effect s)
 steps_of c s base written effect w = record { there = w.there; added = w.added; effect = effect; gives = w.gives; then = refl }
 
+-- a line ends as its last step does
+abbrev pub line_of : Result (Unit {0}) WriteErr → Result (Unit {0}) Halt
+line_of (Ok done) = Ok done
+line_of (Err e) = Err (halt_of_write e)
+
 -- a file was to be written
-wrote : LinkKeepsMeaning → (c : Command) (s : State) (base : Bytes) (contents' : Option Contents) (written : Option Bytes) (ends' : List End) (name bytes : Bytes) (r : Result (Unit {0}) Halt) → Worked c s base written (Wrote name bytes) → ends' ≡ s.ends → WroteOne (Some s.files) contents' name bytes r → LineDid c s r base contents' written ends'
+wrote : LinkKeepsMeaning → (c : Command) (s : State) (base : Bytes) (contents' : Option Contents) (written : Option Bytes) (ends' : List End) (name bytes : Bytes) (r : Result (Unit {0}) WriteErr) → Worked c s base written (Wrote name bytes) → ends' ≡ s.ends → WroteOne (Some s.files) contents' name bytes r → LineDid c s (line_of r) base contents' written ends'
 unfolding LineDid Stops Remains Kept
 wrote law c s base contents' written ends' name bytes (Ok done) w ends told =
     let stands = gives_stands law c (map (held s) (reads_of c)) w.added name bytes (all_stand s (reads_of c) w.kept) w.gives in (
@@ -175,17 +183,14 @@ wrote law c s base contents' written ends' name bytes (Ok done) w ends told =
         },
       ),
     )
-wrote law c s base contents' written ends' name bytes (Err (FileFault n)) w ends told =
+wrote law c s base contents' written ends' name bytes (Err (write.FileFault n)) w ends told =
     let writes = gives_writes c (map (held s) (reads_of c)) w.added name bytes w.gives in (
       inr (subst (λ (l : List Bytes). Contains l n) (sym writes) (0, omega arith, sym told.0)),
       record { files_are = others_kept name (writes_of c) s.files contents' writes told.1; added = w.added; part = whole c s base written (Wrote name bytes) w; written_is = w.written_is },
     )
-wrote law c s base contents' written ends' name bytes (Err Memory) w ends told =
+wrote law c s base contents' written ends' name bytes (Err write.Memory) w ends told =
     let writes = gives_writes c (map (held s) (reads_of c)) w.added name bytes w.gives in
     (tt, record { files_are = others_kept name (writes_of c) s.files contents' writes told; added = w.added; part = whole c s base written (Wrote name bytes) w; written_is = w.written_is })
-wrote law c s base contents' written ends' name bytes (Err (NoFile n)) w ends told = absurd told
-wrote law c s base contents' written ends' name bytes (Err WriteFault) w ends told = absurd told
-wrote law c s base contents' written ends' name bytes (Err (Refused x)) w ends told = absurd told
 
 -- where no file is written, all names stay as they are
 same_kept : (c : Command) (s : State) (added : Bytes) → Kept s → Kept (after (kind_of_work c (map (held s) (reads_of c))) added Nothing s)
@@ -197,7 +202,7 @@ unfolding Kept
 ran_kept c s added end kept = kept
 
 -- all was done, or what it made could not be kept
-line_kept : LinkKeepsMeaning → (c : Command) (s : State) (base : Bytes) (contents contents' : Option Contents) (written : Option Bytes) (ends ends' : List End) (effect : Effect) (r : Result (Unit {0}) Halt) → contents ≡ Some s.files → ends ≡ s.ends → Worked c s base written effect → Finished contents contents' ends ends' effect r → LineDid c s r base contents' written ends'
+line_kept : LinkKeepsMeaning → (c : Command) (s : State) (base : Bytes) (contents contents' : Option Contents) (written : Option Bytes) (ends ends' : List End) (effect : Effect) (r : Result (Unit {0}) WriteErr) → contents ≡ Some s.files → ends ≡ s.ends → Worked c s base written effect → Finished contents contents' ends ends' effect r → LineDid c s (line_of r) base contents' written ends'
 unfolding LineDid Stops Remains
 line_kept law c s base contents contents' written ends ends' Nothing (Ok done) files ends_are w noted = (
   after (kind_of_work c (map (held s) (reads_of c))) w.added Nothing s,
@@ -225,7 +230,7 @@ line_kept law c s base contents contents' written ends ends' (Ran end) (Ok done)
   ),
 )
 line_kept law c s base contents contents' written ends ends' (Ran end) (Err h) files ends_are w noted =
-    subst (λ (x : Halt). LineDid c s (Err x) base contents' written ends') (sym noted.0) (
+    subst (λ (x : WriteErr). LineDid c s (Err (halt_of_write x)) base contents' written ends') (sym noted.0) (
       tt,
       record {
         files_are = untouched_files (writes_of c) s.files contents' (noted.1 ∙ files);
@@ -235,7 +240,7 @@ line_kept law c s base contents contents' written ends ends' (Ran end) (Err h) f
       },
     )
 
-pub line_finished : LinkKeepsMeaning → (c : Command) (s : State) (base : Bytes) (contents contents' : Option Contents) (written' : Option Bytes) (ends ends' : List End) (effect : Effect) (r : Result (Unit {0}) Halt) → contents ≡ Some s.files → Kept s → ends ≡ s.ends → missing s.files (reads_of c) ≡ None → Performs c (map (held s) (reads_of c)) (Some (base ++ s.output)) written' (Ok effect) → Finished contents contents' ends ends' effect r → LineDid c s r base contents' written' ends'
+pub line_finished : LinkKeepsMeaning → (c : Command) (s : State) (base : Bytes) (contents contents' : Option Contents) (written' : Option Bytes) (ends ends' : List End) (effect : Effect) (r : Result (Unit {0}) WriteErr) → contents ≡ Some s.files → Kept s → ends ≡ s.ends → missing s.files (reads_of c) ≡ None → Performs c (map (held s) (reads_of c)) (Some (base ++ s.output)) written' (Ok effect) → Finished contents contents' ends ends' effect r → LineDid c s (line_of r) base contents' written' ends'
 line_finished law c s base contents contents' written' ends ends' effect r files kept ends_are there told noted =
     line_kept law c s base contents contents' written' ends ends' effect r files ends_are (worked c s base written' effect kept there told) noted
 
@@ -245,8 +250,8 @@ read_done s contents names reads texts files are told =
     let here : ReadAll (Some s.files) reads (Ok texts) = subst (λ (l : List Bytes). ReadAll (Some s.files) l (Ok texts)) are (subst (λ (x : Option Contents). ReadAll x names (Ok texts)) files told) in
     (here.0, texts_are s reads ∙ sym here.1)
 
-pub files_told : (s : State) (contents : Option Contents) (names : List Bytes) (h : Halt) → contents ≡ Some s.files → ReadAll contents names (Err h) → ReadAll (Some s.files) names (Err h)
-files_told s contents names h files told = subst (λ (x : Option Contents). ReadAll x names (Err h)) files told
+pub files_told : (s : State) (contents : Option Contents) (names : List Bytes) (e : ReadErr) → contents ≡ Some s.files → ReadAll contents names (Err e) → ReadAll (Some s.files) names (Err e)
+files_told s contents names e files told = subst (λ (x : Option Contents). ReadAll x names (Err e)) files told
 
-pub performed : (c : Command) (hs : List Held) (old new : Option Bytes) (bytes : Bytes) (r : Result Effect Halt) → old ≡ Some bytes → Performs c hs old new r → Performs c hs (Some bytes) new r
+pub performed : (c : Command) (hs : List Held) (old new : Option Bytes) (bytes : Bytes) (r : Result Effect WorkErr) → old ≡ Some bytes → Performs c hs old new r → Performs c hs (Some bytes) new r
 performed c hs old new bytes r is told = subst (λ (x : Option Bytes). Performs c hs x new r) is told

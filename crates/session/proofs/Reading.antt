@@ -3,8 +3,8 @@ use Rattle.std.proofs.Common.{◌≡◌, ℕ, suc, ◌+◌, ◌<◌, List, [], �
 use Rattle.std.proofs.lemmas.List.{take-append-drop, take_more}
 use Rattle.std.specs.FinMap.{get}
 use Rattle.base_io.specs.Contents.{Bytes, Contents}
-use Rattle.session.specs.declared.answer.Halt.{Halt}
-use Rattle.session.specs.declared.answer.Halt.TheVariants.{NoFile, FileFault, WriteFault, Refused, Memory}
+use Rattle.session.specs.declared.errors.ReadErr.{ReadErr}
+use Rattle.session.specs.declared.errors.ReadErr.TheVariants.{NoFile, FileFault, Memory}
 use Rattle.session.specs.Outside.{missing, ReadOne, ReadAll}
 
 abbrev pub texts_of : Contents → List Bytes → List Bytes
@@ -47,13 +47,11 @@ here [] more name = (0, omega arith, refl)
 here (n ∷ names) more name = let there = here names more name in (suc there.0, omega arith, there.2)
 
 -- a name that could not be read
-pub read_stops : (o : Option Contents) (names more texts : List Bytes) (name : Bytes) (h : Halt) → ReadSoFar o names texts → ReadOne o name (Err h) → ReadAll o (names ++ name ∷ more) (Err h)
-read_stops None names more texts name h so_far one = tt
+pub read_stops : (o : Option Contents) (names more texts : List Bytes) (name : Bytes) (e : ReadErr) → ReadSoFar o names texts → ReadOne o name (Err e) → ReadAll o (names ++ name ∷ more) (Err e)
+read_stops None names more texts name e so_far one = tt
 read_stops (Some files) names more texts name (NoFile n) so_far one =
     missing-append files names (name ∷ more) so_far.0 ∙ ap (λ (x : Option Bytes). cond (is_none x) (Some name) (missing files more)) one.1 ∙ ap (λ (x : Bytes). Some x) (sym one.0)
 read_stops (Some files) names more texts name (FileFault n) so_far one = subst (λ (x : Bytes). Contains (names ++ name ∷ more) x) (sym one) (here names more name)
-read_stops (Some files) names more texts name WriteFault so_far one = absurd one
-read_stops (Some files) names more texts name (Refused r) so_far one = absurd one
 read_stops (Some files) names more texts name Memory so_far one = tt
 
 pub read_whole : (o : Option Contents) (names texts : List Bytes) → ReadSoFar o names texts → ReadAll o names (Ok texts)
@@ -71,11 +69,11 @@ pub name_splits : (names : List Bytes) (i : ℕ) (name : Bytes) → i < length n
 name_splits names i name below is = sym (take-append-drop i names) ∙ ap (λ (l : List Bytes). take i names ++ l) (drop-cons names i name below ∙ ap (λ (x : Bytes). x ∷ drop (suc i) names) (sym is))
 
 -- the whole answer where a name could not be read
-pub read_all_stops : (o here : Option Contents) (names texts : List Bytes) (i : ℕ) (name : Bytes) (h : Halt) (result : Result (List Bytes) Halt) → i < length names → name ≡ get_or names i name → here ≡ o → ReadSoFar o (take i names) texts → ReadOne here name (Err h) → result ≡ Err h → ReadAll o names result
-read_all_stops o here names texts i name h result below is same so_far one result_is =
-    let one_o = subst (λ (x : Option Contents). ReadOne x name (Err h)) same one in
-    let all = read_stops o (take i names) (drop (suc i) names) texts name h so_far one_o in
-    subst (λ (r : Result (List Bytes) Halt). ReadAll o names r) (sym result_is) (subst (λ (l : List Bytes). ReadAll o l (Err h)) (sym (name_splits names i name below is)) all)
+pub read_all_stops : (o here : Option Contents) (names texts : List Bytes) (i : ℕ) (name : Bytes) (e : ReadErr) (result : Result (List Bytes) ReadErr) → i < length names → name ≡ get_or names i name → here ≡ o → ReadSoFar o (take i names) texts → ReadOne here name (Err e) → result ≡ Err e → ReadAll o names result
+read_all_stops o here names texts i name e result below is same so_far one result_is =
+    let one_o = subst (λ (x : Option Contents). ReadOne x name (Err e)) same one in
+    let all = read_stops o (take i names) (drop (suc i) names) texts name e so_far one_o in
+    subst (λ (r : Result (List Bytes) ReadErr). ReadAll o names r) (sym result_is) (subst (λ (l : List Bytes). ReadAll o l (Err e)) (sym (name_splits names i name below is)) all)
 
 pub read_all_more : (o here : Option Contents) (names texts texts' : List Bytes) (i : ℕ) (name text : Bytes) → i < length names → name ≡ get_or names i name → here ≡ o → ReadSoFar o (take i names) texts → ReadOne here name (Ok text) → texts' ≡ texts ++ text ∷ [] → ReadSoFar o (take (i + 1) names) texts'
 read_all_more o here names texts texts' i name text below is same so_far one more_is =

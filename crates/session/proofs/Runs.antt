@@ -9,9 +9,12 @@ use Rattle.c_tree.specs.declared.function.CProgram.{CProgram}
 use Rattle.c_meaning.specs.Program.{cm}
 use Rattle.c_meaning.specs.Checked.{IsChecked}
 use Rattle.c_machine.specs.Runs.{Ran}
-use Rattle.session.specs.declared.answer.Halt.{Halt}
-use Rattle.session.specs.declared.answer.Halt.TheVariants.{NoFile, FileFault, WriteFault, Refused, Memory}
-use Rattle.session.specs.Outside.{PutAll}
+use Rattle.base_io.specs.declared.end.RunErr.TheVariants as run
+use Rattle.session.specs.declared.errors.MakeErr.{MakeErr}
+use Rattle.session.specs.declared.errors.MakeErr.TheVariants as make
+use Rattle.session.specs.declared.errors.WorkErr.{WorkErr}
+use Rattle.session.specs.Halts.{work_of_make, work_of_run}
+use Rattle.base_io.specs.Writing.{PutAll}
 use Rattle.session.specs.Works.{IsProgramText, TextRuns, NotRun, last_line, no_input}
 use Rattle.session.specs.Done.{HasTree, ProgramRead, Loaded, RanTo, TextRan}
 
@@ -45,37 +48,31 @@ pub text_ran : (old new : Option Bytes) (bytes : Bytes) (items : List Item) (arg
 text_ran None new bytes items args turns end program told = tt
 text_ran (Some o) new bytes items args turns end program told = (cm items no_input args turns, (runs_of bytes items args turns program, told.0, told.1))
 
-pub text_fault : (old new : Option Bytes) (bytes : Bytes) (items : List Item) (args : List Bytes) (turns : ℕ) (e : RunErr) → IsProgramText bytes items → RanTo old new (cm items no_input args turns) (Err e) → TextRan old new bytes args turns (Err WriteFault)
-text_fault None new bytes items args turns e program told = tt
-text_fault (Some o) new bytes items args turns e program told = (cm items no_input args turns, (runs_of bytes items args turns program, told))
-
-pub text_no_memory : (old new : Option Bytes) (bytes : Bytes) (items : List Item) (args : List Bytes) (turns : ℕ) (e : RunErr) → IsProgramText bytes items → RanTo old new (cm items no_input args turns) (Err e) → TextRan old new bytes args turns (Err Memory)
-text_no_memory None new bytes items args turns e program told = tt
-text_no_memory (Some o) new bytes items args turns e program told = inr (cm items no_input args turns, (runs_of bytes items args turns program, told))
+pub text_cut : (old new : Option Bytes) (bytes : Bytes) (items : List Item) (args : List Bytes) (turns : ℕ) (e : RunErr) (r : Result End WorkErr) → IsProgramText bytes items → RanTo old new (cm items no_input args turns) (Err e) → r ≡ Err (work_of_run e) → TextRan old new bytes args turns r
+text_cut old new bytes items args turns e r program told is = subst (λ (x : Result End WorkErr). TextRan old new bytes args turns x) (sym is) (go old e told)
+  where
+    go : (old : Option Bytes) (e : RunErr) → RanTo old new (cm items no_input args turns) (Err e) → TextRan old new bytes args turns (Err (work_of_run e))
+    go None e told = tt
+    go (Some o) run.WriteFault told = (cm items no_input args turns, (runs_of bytes items args turns program, told))
+    go (Some o) run.Memory told = inr (cm items no_input args turns, (runs_of bytes items args turns program, told))
 
 -- no program was loaded
-not_loaded : (old : Option Bytes) (bytes : Bytes) (args : List Bytes) (turns : ℕ) (h : Halt) → Loaded bytes (Err h) → TextRan old old bytes args turns (Err h)
-not_loaded None bytes args turns h told = tt
-not_loaded (Some o) bytes args turns (Refused r) told = (told.0, told.1, refl)
-not_loaded (Some o) bytes args turns Memory told = inl refl
-not_loaded (Some o) bytes args turns (NoFile n) told = absurd told
-not_loaded (Some o) bytes args turns (FileFault n) told = absurd told
-not_loaded (Some o) bytes args turns WriteFault told = absurd told
+not_loaded : (old : Option Bytes) (bytes : Bytes) (args : List Bytes) (turns : ℕ) (e : MakeErr) → Loaded bytes (Err e) → TextRan old old bytes args turns (Err (work_of_make e))
+not_loaded None bytes args turns e told = tt
+not_loaded (Some o) bytes args turns (make.Refused r) told = (told.0, told.1, refl)
+not_loaded (Some o) bytes args turns make.Memory told = inl refl
 
-pub text_not_loaded : (old : Option Bytes) (bytes : Bytes) (args : List Bytes) (turns : ℕ) (h : Halt) (r : Result End Halt) → Loaded bytes (Err h) → r ≡ Err h → TextRan old old bytes args turns r
-text_not_loaded old bytes args turns h r told is = subst (λ (x : Result End Halt). TextRan old old bytes args turns x) (sym is) (not_loaded old bytes args turns h told)
+pub text_not_loaded : (old : Option Bytes) (bytes : Bytes) (args : List Bytes) (turns : ℕ) (e : MakeErr) (r : Result End WorkErr) → Loaded bytes (Err e) → r ≡ Err (work_of_make e) → TextRan old old bytes args turns r
+text_not_loaded old bytes args turns e r told is = subst (λ (x : Result End WorkErr). TextRan old old bytes args turns x) (sym is) (not_loaded old bytes args turns e told)
 
 -- Loading -----------------------------------------------------------------------------------
 
-pub not_read : (bytes : Bytes) (h : Halt) (r : Result CProgram Halt) → ProgramRead bytes (Err h) → r ≡ Err h → Loaded bytes r
-not_read bytes h r told is = subst (λ (x : Result CProgram Halt). Loaded bytes x) (sym is) (go h told)
+pub not_read : (bytes : Bytes) (e : MakeErr) (r : Result CProgram MakeErr) → ProgramRead bytes (Err e) → r ≡ Err e → Loaded bytes r
+not_read bytes e r told is = subst (λ (x : Result CProgram MakeErr). Loaded bytes x) (sym is) (go e told)
   where
-    go : (h : Halt) → ProgramRead bytes (Err h) → Loaded bytes (Err h)
-    go (Refused r) told = (told.0, λ items text checked. told.1 items text)
-    go Memory told = tt
-    go (NoFile n) told = absurd told
-    go (FileFault n) told = absurd told
-    go WriteFault told = absurd told
+    go : (e : MakeErr) → ProgramRead bytes (Err e) → Loaded bytes (Err e)
+    go (make.Refused r) told = (told.0, λ items text checked. told.1 items text)
+    go make.Memory told = tt
 
 pub not_checked : (bytes : Bytes) (items : List Item) → HasTree bytes items → (IsChecked items → ⊥) → NotRun bytes
 not_checked bytes items tree not = λ others text checked. not (subst (λ (l : List Item). IsChecked l) (tree.only others text) checked)

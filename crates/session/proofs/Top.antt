@@ -1,41 +1,33 @@
 -- The top call.
-use Rattle.std.proofs.Common.{◌≡◌, ◌≤◌, ◌<◌, List, map, length, Option, Some, Result, Ok, Err, refl, ap, sym, ◌∙◌, subst}
+use Rattle.std.proofs.Common.{◌≡◌, ◌≤◌, ◌<◌, List, [], ◌∷◌, map, length, Option, Some, Result, Ok, Err, refl, ap, sym, ◌∙◌, subst}
 use Rattle.scheme_data.specs.declared.datum.LimitKind.TheVariants.{Bytes as TheBytes}
 use Rattle.base_io.specs.Contents.{Bytes, Contents}
-use Rattle.commands.specs.Commands.{parsed, parts_of, script_of}
-use Rattle.session.specs.declared.answer.Halt.{Halt}
-use Rattle.session.specs.declared.answer.Halt.TheVariants.{NoFile, FileFault, WriteFault, Refused, Memory}
+use Rattle.commands.specs.Commands.{parsed, parts_of, script_of, request_of}
+use Rattle.commands.specs.declared.command.Command.{Command}
+use Rattle.commands.specs.declared.command.Request.TheVariants.{Line, Do}
+use Rattle.base_io.specs.declared.end.End.{End}
+use Rattle.session.specs.declared.errors.ReadErr.{ReadErr}
+use Rattle.session.specs.declared.errors.ReadErr.TheVariants.{NoFile, FileFault, Memory}
+use Rattle.session.specs.declared.errors.Halt.TheVariants as halt
+use Rattle.session.specs.declared.errors.Stop.{Stop}
+use Rattle.session.specs.declared.errors.Stop.TheVariants.{Halted}
+use Rattle.session.specs.Halts.{stop_of_read}
 use Rattle.session.specs.declared.answer.Answer.{Answer}
 use Rattle.session.specs.declared.answer.Answer.TheVariants as answer
 use Rattle.session.specs.declared.answer.Refusal.TheVariants.{Limit}
 use Rattle.session.specs.Outside.{ReadOne}
-use Rattle.session.specs.Scripts.{ScriptDid, Untouched, NamedDid, no_script, long_script, script, script_fault, script_memory, longest, answer_of}
+use Rattle.session.specs.Scripts.{ScriptDid, Untouched, NamedDid, ProgramDid, one_line, named, no_script, long_script, script, script_fault, script_memory, longest, answer_of_stop, answer_of_lines}
 
 abbrev pub NamedTold : Bytes → Option Contents → Option Bytes → Answer → Option Contents → Option Bytes → Type 0
 NamedTold name contents written a contents' written' =
     (m : Contents) (source base : Bytes) → contents ≡ Some m → written ≡ Some base → NamedDid name m source base a contents' (Some source) written'
 
-at_told : (name : Bytes) (m : Contents) (contents : Option Contents) (r : Result Bytes Halt) → contents ≡ Some m → ReadOne contents name r → ReadOne (Some m) name r
+at_told : (name : Bytes) (m : Contents) (contents : Option Contents) (r : Result Bytes ReadErr) → contents ≡ Some m → ReadOne contents name r → ReadOne (Some m) name r
 at_told name m contents r is told = subst (λ (x : Option Contents). ReadOne x name r) is told
-
-unread : (name : Bytes) (m : Contents) (source base : Bytes) (h : Halt) (contents' : Option Contents) (left written : Option Bytes) → ReadOne (Some m) name (Err h) → Untouched m source base contents' left written → NamedDid name m source base (answer_of h 0) contents' left written
-unread name m source base (NoFile n) contents' left written told same = no_script told.1 (ap (λ (x : Bytes). answer.NoFile x) told.0) same
-unread name m source base (FileFault n) contents' left written told same = script_fault (ap (λ (x : Bytes). answer.FileFault x) told) same
-unread name m source base WriteFault contents' left written told same = absurd told
-unread name m source base (Refused r) contents' left written told same = absurd told
-unread name m source base Memory contents' left written told same = script_memory refl same
-
-pub named_unread : (name : Bytes) (contents : Option Contents) (written : Option Bytes) (contents' : Option Contents) (h : Halt) (a : Answer) → ReadOne contents name (Err h) → contents' ≡ contents → a ≡ answer_of h 0 → NamedTold name contents written a contents' written
-named_unread name contents written contents' h a told same a_is = λ m source base c_is w_is.
-    subst (λ (x : Answer). NamedDid name m source base x contents' (Some source) written) (sym a_is) (unread name m source base h contents' (Some source) written (at_told name m contents (Err h) c_is told) (record { files_are = same ∙ c_is; left_is = refl; written_is = w_is }))
 
 pub named_long : (name bytes text : Bytes) (contents : Option Contents) (written : Option Bytes) (contents' : Option Contents) → ReadOne contents name (Ok bytes) → text ≡ bytes → contents' ≡ contents → longest < length text → NamedTold name contents written (answer.Refused 0 (Limit TheBytes)) contents' written
 named_long name bytes text contents written contents' told is same long = λ m source base c_is w_is.
     long_script bytes (at_told name m contents (Ok bytes) c_is told) (subst (λ (b : Bytes). longest < length b) is long) refl (record { files_are = same ∙ c_is; left_is = refl; written_is = w_is })
-
-pub named_no_memory : (name : Bytes) (contents : Option Contents) (written : Option Bytes) (contents' : Option Contents) → contents' ≡ contents → NamedTold name contents written answer.Memory contents' written
-named_no_memory name contents written contents' same = λ m source base c_is w_is.
-    script_memory refl (record { files_are = same ∙ c_is; left_is = refl; written_is = w_is })
 
 pub named_done : (name bytes text text' : Bytes) (lines : List Bytes) (contents : Option Contents) (written : Option Bytes) (contents' contents'' : Option Contents) (written'' : Option Bytes) (a : Answer) → ReadOne contents name (Ok bytes) → text ≡ bytes → text' ≡ bytes → contents' ≡ contents → length text ≤ longest → lines ≡ parts_of 10 text' → ((m : Contents) (source base : Bytes) → contents' ≡ Some m → written ≡ Some base → ScriptDid (map parsed lines) m source base a contents'' (Some source) written'') → NamedTold name contents written a contents'' written''
 unfolding script_of
@@ -43,3 +35,15 @@ named_done name bytes text text' lines contents written contents' contents'' wri
     let done = did m source base (same ∙ c_is) w_is in
     let of_bytes : lines ≡ parts_of 10 bytes = lines_are ∙ ap (λ (b : Bytes). parts_of 10 b) is' in
     script bytes (at_told name m contents (Ok bytes) c_is told) (subst (λ (b : Bytes). length b ≤ longest) is few) (subst (λ (l : List Bytes). ScriptDid (map parsed l) m source base a contents'' (Some source) written'') of_bytes done)
+
+-- The words ---------------------------------------------------------------------------------
+
+-- words that are a line by themselves
+pub line_told : {words : List Bytes} {m : Contents} {source base : Bytes} {a b : Answer} {contents : Option Contents} {left written : Option Bytes} (c : Command) → request_of words ≡ Some (Line c) → a ≡ b → left ≡ Some source → ScriptDid (Some c ∷ []) m source base b contents (Some source) written → ProgramDid words m source base a contents left written
+line_told {words} {m} {source} {base} {a} {b} {contents} {left} {written} c asked a_is left_is did =
+    one_line c asked (subst (λ (x : Answer). ScriptDid (Some c ∷ []) m source base x contents left written) (sym a_is) (subst (λ (l : Option Bytes). ScriptDid (Some c ∷ []) m source base b contents l written) (sym left_is) did))
+
+-- words that name a script
+pub script_told : {words : List Bytes} {m : Contents} {source base : Bytes} {a b : Answer} {contents : Option Contents} {left written : Option Bytes} (name : Bytes) → request_of words ≡ Some (Do name) → a ≡ b → left ≡ Some source → NamedDid name m source base b contents (Some source) written → ProgramDid words m source base a contents left written
+script_told {words} {m} {source} {base} {a} {b} {contents} {left} {written} name asked a_is left_is did =
+    named name asked (subst (λ (x : Answer). NamedDid name m source base x contents left written) (sym a_is) (subst (λ (l : Option Bytes). NamedDid name m source base b contents l written) (sym left_is) did))

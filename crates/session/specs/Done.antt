@@ -18,47 +18,40 @@ use Rattle.linker.specs.Links.{Linked}
 use Rattle.commands.specs.declared.command.Command.{Command}
 use Rattle.session.specs.declared.answer.Effect.{Effect}
 use Rattle.session.specs.declared.answer.Refusal.TheVariants.{NotBuilt, Syntax, Limit, MissingModule, MissingName}
-use Rattle.session.specs.declared.answer.Halt.{Halt}
-use Rattle.session.specs.declared.answer.Halt.TheVariants.{NoFile, FileFault, WriteFault, Refused, Memory}
+use Rattle.session.specs.declared.errors.MakeErr.{MakeErr}
+use Rattle.session.specs.declared.errors.MakeErr.TheVariants as make
+use Rattle.session.specs.declared.errors.WorkErr.{WorkErr}
+use Rattle.session.specs.declared.errors.WorkErr.TheVariants as work
 use Rattle.session.specs.Works.{Held, Gives, Refuses, MayAdd, IsProgramText, TextRuns, printed, ExportRefuses, CompileRefuses, LinkRefuses, NotRun}
 
--- why a line is not done whose source isn't compiled
-abbrev pub halt_of : UnitErr → Halt
-halt_of (unit.Syntax at) = Refused (Syntax at)
-halt_of (unit.Limit kind) = Refused (Limit kind)
-halt_of unit.NotBuilt = Refused NotBuilt
-halt_of unit.Memory = Memory
+-- why nothing is made of a source
+abbrev pub make_err_of : UnitErr → MakeErr
+make_err_of (unit.Syntax at) = make.Refused (Syntax at)
+make_err_of (unit.Limit kind) = make.Refused (Limit kind)
+make_err_of unit.NotBuilt = make.Refused NotBuilt
+make_err_of unit.Memory = make.Memory
 
--- why a line is not done whose objects aren't linked
-abbrev pub halt_of_link : LinkErr → Halt
-halt_of_link (linking.MissingModule n m) = Refused (MissingModule n m)
-halt_of_link (linking.MissingName n m name) = Refused (MissingName n m name)
-halt_of_link linking.NotBuilt = Refused NotBuilt
-halt_of_link linking.Memory = Memory
+-- why nothing is made of objects
+abbrev pub make_err_of_link : LinkErr → MakeErr
+make_err_of_link (linking.MissingModule n m) = make.Refused (MissingModule n m)
+make_err_of_link (linking.MissingName n m name) = make.Refused (MissingName n m name)
+make_err_of_link linking.NotBuilt = make.Refused NotBuilt
+make_err_of_link linking.Memory = make.Memory
 
-abbrev pub ExportDid : Bytes → Result Bytes Halt → Type 0
+abbrev pub ExportDid : Bytes → Result Bytes MakeErr → Type 0
 ExportDid source (Ok text) = Exported source text
-ExportDid source (Err (Refused r)) = ExportRefuses source r
-ExportDid source (Err Memory) = Unit {0}
-ExportDid source (Err (NoFile n)) = ⊥
-ExportDid source (Err (FileFault n)) = ⊥
-ExportDid source (Err WriteFault) = ⊥
+ExportDid source (Err (make.Refused r)) = ExportRefuses source r
+ExportDid source (Err make.Memory) = Unit {0}
 
-abbrev pub CompileDid : Bytes → List Bytes → Result Bytes Halt → Type 0
+abbrev pub CompileDid : Bytes → List Bytes → Result Bytes MakeErr → Type 0
 CompileDid source texts (Ok text) = Compiled source texts text
-CompileDid source texts (Err (Refused r)) = CompileRefuses source texts r
-CompileDid source texts (Err Memory) = Unit {0}
-CompileDid source texts (Err (NoFile n)) = ⊥
-CompileDid source texts (Err (FileFault n)) = ⊥
-CompileDid source texts (Err WriteFault) = ⊥
+CompileDid source texts (Err (make.Refused r)) = CompileRefuses source texts r
+CompileDid source texts (Err make.Memory) = Unit {0}
 
-abbrev pub LinkDid : List Bytes → Result Bytes Halt → Type 0
+abbrev pub LinkDid : List Bytes → Result Bytes MakeErr → Type 0
 LinkDid objects (Ok text) = Linked objects text
-LinkDid objects (Err (Refused r)) = LinkRefuses objects r
-LinkDid objects (Err Memory) = Unit {0}
-LinkDid objects (Err (NoFile n)) = ⊥
-LinkDid objects (Err (FileFault n)) = ⊥
-LinkDid objects (Err WriteFault) = ⊥
+LinkDid objects (Err (make.Refused r)) = LinkRefuses objects r
+LinkDid objects (Err make.Memory) = Unit {0}
 
 -- Runs --------------------------------------------------------------------------------------
 
@@ -67,21 +60,15 @@ pub record HasTree (bytes : Bytes) (items : List Item) : Type 0 where
   pub text : CText bytes items
   pub only : (others : List Item) → CText bytes others → others ≡ items
 
-abbrev pub ProgramRead : Bytes → Result CProgram Halt → Type 0
+abbrev pub ProgramRead : Bytes → Result CProgram MakeErr → Type 0
 ProgramRead bytes (Ok p) = HasTree bytes (items_of p.items)
-ProgramRead bytes (Err (Refused r)) = (r ≡ NotBuilt) × ((items : List Item) → CText bytes items → ⊥)
-ProgramRead bytes (Err Memory) = Unit {0}
-ProgramRead bytes (Err (NoFile n)) = ⊥
-ProgramRead bytes (Err (FileFault n)) = ⊥
-ProgramRead bytes (Err WriteFault) = ⊥
+ProgramRead bytes (Err (make.Refused r)) = (r ≡ NotBuilt) × ((items : List Item) → CText bytes items → ⊥)
+ProgramRead bytes (Err make.Memory) = Unit {0}
 
-abbrev pub Loaded : Bytes → Result CProgram Halt → Type 0
+abbrev pub Loaded : Bytes → Result CProgram MakeErr → Type 0
 Loaded bytes (Ok p) = IsProgramText bytes (items_of p.items)
-Loaded bytes (Err (Refused r)) = (r ≡ NotBuilt) × NotRun bytes
-Loaded bytes (Err Memory) = Unit {0}
-Loaded bytes (Err (NoFile n)) = ⊥
-Loaded bytes (Err (FileFault n)) = ⊥
-Loaded bytes (Err WriteFault) = ⊥
+Loaded bytes (Err (make.Refused r)) = (r ≡ NotBuilt) × NotRun bytes
+Loaded bytes (Err make.Memory) = Unit {0}
 
 -- where the sink tells: all that the run writes, or a part of it
 abbrev pub RanTo : Option Bytes → Option Bytes → Observation → Result End RunErr → Type 0
@@ -93,14 +80,12 @@ RanTo (Some old) new seen (Err e) = WrotePart old new (printed seen)
 abbrev pub CutRun : Bytes → Option Bytes → Bytes → List Bytes → ℕ → Type 0
 CutRun old new bytes args turns = (seen : Observation) × (TextRuns bytes args turns seen × WrotePart old new (printed seen))
 
-abbrev pub TextRan : Option Bytes → Option Bytes → Bytes → List Bytes → ℕ → Result End Halt → Type 0
+abbrev pub TextRan : Option Bytes → Option Bytes → Bytes → List Bytes → ℕ → Result End WorkErr → Type 0
 TextRan None new bytes args turns result = Unit {0}
 TextRan (Some old) new bytes args turns (Ok end) = (seen : Observation) × (TextRuns bytes args turns seen × (end ≡ seen.end) × (new ≡ Some (old ++ printed seen)))
-TextRan (Some old) new bytes args turns (Err (Refused r)) = (r ≡ NotBuilt) × NotRun bytes × (new ≡ Some old)
-TextRan (Some old) new bytes args turns (Err WriteFault) = CutRun old new bytes args turns
-TextRan (Some old) new bytes args turns (Err Memory) = (new ≡ Some old) ⊎ CutRun old new bytes args turns
-TextRan (Some old) new bytes args turns (Err (NoFile n)) = ⊥
-TextRan (Some old) new bytes args turns (Err (FileFault n)) = ⊥
+TextRan (Some old) new bytes args turns (Err (work.Refused r)) = (r ≡ NotBuilt) × NotRun bytes × (new ≡ Some old)
+TextRan (Some old) new bytes args turns (Err work.WriteFault) = CutRun old new bytes args turns
+TextRan (Some old) new bytes args turns (Err work.Memory) = (new ≡ Some old) ⊎ CutRun old new bytes args turns
 
 -- A command ---------------------------------------------------------------------------------
 
@@ -108,11 +93,9 @@ abbrev pub Added : Command → List Held → Bytes → Option Bytes → Type 0
 Added c hs old new = (added : Bytes) × (MayAdd c hs added × (new ≡ Some (old ++ added)))
 
 -- where the sink tells: a command was done, refused or cut off
-unfoldable pub Performs : Command → List Held → Option Bytes → Option Bytes → Result Effect Halt → Type 0
+unfoldable pub Performs : Command → List Held → Option Bytes → Option Bytes → Result Effect WorkErr → Type 0
 Performs c hs None new result = Unit {0}
 Performs c hs (Some old) new (Ok effect) = (added : Bytes) × (Gives c hs added effect × (new ≡ Some (old ++ added)))
-Performs c hs (Some old) new (Err (Refused r)) = Refuses c hs r × (new ≡ Some old)
-Performs c hs (Some old) new (Err WriteFault) = Added c hs old new
-Performs c hs (Some old) new (Err Memory) = Added c hs old new
-Performs c hs (Some old) new (Err (NoFile n)) = ⊥
-Performs c hs (Some old) new (Err (FileFault n)) = ⊥
+Performs c hs (Some old) new (Err (work.Refused r)) = Refuses c hs r × (new ≡ Some old)
+Performs c hs (Some old) new (Err work.WriteFault) = Added c hs old new
+Performs c hs (Some old) new (Err work.Memory) = Added c hs old new

@@ -1,4 +1,5 @@
 pub mod Done
+pub mod Halts
 pub mod Messages
 pub mod Outside
 pub mod Scripts

@@ -2,45 +2,34 @@
 use Rattle.std.specs.Prelude.{◌≡◌, List, [], ◌++◌, map, unwrap_or, find, is_none, Option, Some, None, Result, Ok, Err, Contains}
 use Rattle.std.specs.FinMap.{get, insert}
 use Rattle.base_io.specs.Contents.{Bytes, Contents, KeepsOthers}
-use Rattle.session.specs.declared.answer.Halt.{Halt}
-use Rattle.session.specs.declared.answer.Halt.TheVariants.{NoFile, FileFault, WriteFault, Refused, Memory}
+use Rattle.session.specs.declared.errors.ReadErr.{ReadErr}
+use Rattle.session.specs.declared.errors.ReadErr.TheVariants as read
+use Rattle.session.specs.declared.errors.WriteErr.{WriteErr}
+use Rattle.session.specs.declared.errors.WriteErr.TheVariants as write
 
 -- the first name that isn't there
 abbrev pub missing : Contents → List Bytes → Option Bytes
 missing files names = find (λ name. is_none (get files name)) names
 
 -- a name was read, isn't there, or may not have been read
-abbrev pub ReadOne : Option Contents → Bytes → Result Bytes Halt → Type 0
+abbrev pub ReadOne : Option Contents → Bytes → Result Bytes ReadErr → Type 0
 ReadOne None name result = Unit {0}
 ReadOne (Some files) name (Ok bytes) = get files name ≡ Some bytes
-ReadOne (Some files) name (Err (NoFile n)) = (n ≡ name) × (get files name ≡ None)
-ReadOne (Some files) name (Err (FileFault n)) = n ≡ name
-ReadOne (Some files) name (Err WriteFault) = ⊥
-ReadOne (Some files) name (Err (Refused r)) = ⊥
-ReadOne (Some files) name (Err Memory) = Unit {0}
+ReadOne (Some files) name (Err (read.NoFile n)) = (n ≡ name) × (get files name ≡ None)
+ReadOne (Some files) name (Err (read.FileFault n)) = n ≡ name
+ReadOne (Some files) name (Err read.Memory) = Unit {0}
 
 -- a name was written, or may have lost what it had
-abbrev pub WroteOne : Option Contents → Option Contents → Bytes → Bytes → Result (Unit {0}) Halt → Type 0
+abbrev pub WroteOne : Option Contents → Option Contents → Bytes → Bytes → Result (Unit {0}) WriteErr → Type 0
 WroteOne None new name bytes result = Unit {0}
 WroteOne (Some files) new name bytes (Ok done) = new ≡ Some (insert files name bytes)
-WroteOne (Some files) new name bytes (Err (NoFile n)) = ⊥
-WroteOne (Some files) new name bytes (Err (FileFault n)) = (n ≡ name) × KeepsOthers name files new
-WroteOne (Some files) new name bytes (Err WriteFault) = ⊥
-WroteOne (Some files) new name bytes (Err (Refused r)) = ⊥
-WroteOne (Some files) new name bytes (Err Memory) = KeepsOthers name files new
+WroteOne (Some files) new name bytes (Err (write.FileFault n)) = (n ≡ name) × KeepsOthers name files new
+WroteOne (Some files) new name bytes (Err write.Memory) = KeepsOthers name files new
 
 -- all names are there and were read, or the first that isn't there is this one
-abbrev pub ReadAll : Option Contents → List Bytes → Result (List Bytes) Halt → Type 0
+abbrev pub ReadAll : Option Contents → List Bytes → Result (List Bytes) ReadErr → Type 0
 ReadAll None names result = Unit {0}
 ReadAll (Some files) names (Ok texts) = (missing files names ≡ None) × (texts ≡ map (λ n. unwrap_or (get files n) []) names)
-ReadAll (Some files) names (Err (NoFile n)) = missing files names ≡ Some n
-ReadAll (Some files) names (Err (FileFault n)) = Contains names n
-ReadAll (Some files) names (Err WriteFault) = ⊥
-ReadAll (Some files) names (Err (Refused r)) = ⊥
-ReadAll (Some files) names (Err Memory) = Unit {0}
-
--- all bytes were written, or a part of them
-abbrev pub PutAll : {E : Type 0} → Option Bytes → Option Bytes → Bytes → Result (Unit {0}) E → Type 0
-PutAll None new bytes result = Unit {0}
-PutAll (Some old) new bytes (Ok done) = new ≡ Some (old ++ bytes)
-PutAll (Some old) new bytes (Err e) = (added : Bytes) × ((rest : Bytes) × (bytes ≡ added ++ rest) × (new ≡ Some (old ++ added)))
+ReadAll (Some files) names (Err (read.NoFile n)) = missing files names ≡ Some n
+ReadAll (Some files) names (Err (read.FileFault n)) = Contains names n
+ReadAll (Some files) names (Err read.Memory) = Unit {0}

@@ -12,8 +12,10 @@ use Rattle.commands.specs.Commands.{request_of, script_of}
 use Rattle.session.specs.declared.answer.Refusal.TheVariants.{NotBuilt, Limit}
 use Rattle.session.specs.declared.answer.Effect.{Effect}
 use Rattle.session.specs.declared.answer.Effect.TheVariants.{Nothing, Wrote, Ran}
-use Rattle.session.specs.declared.answer.Halt.{Halt}
-use Rattle.session.specs.declared.answer.Halt.TheVariants as halt
+use Rattle.session.specs.declared.errors.Halt.{Halt}
+use Rattle.session.specs.declared.errors.Halt.TheVariants as halt
+use Rattle.session.specs.declared.errors.Stop.{Stop}
+use Rattle.session.specs.declared.errors.Stop.TheVariants as stop
 use Rattle.session.specs.declared.answer.Answer.{Answer}
 use Rattle.session.specs.declared.answer.Answer.TheVariants as answer
 use Rattle.session.specs.Outside.{missing}
@@ -122,6 +124,20 @@ answer_of (halt.Refused refusal) n = answer.Refused n refusal
 answer_of (halt.FileFault name) n = answer.FileFault name
 answer_of halt.WriteFault n = answer.WriteFault
 answer_of halt.Memory n = answer.Memory
+
+abbrev pub answer_of_stop : Stop → Answer
+answer_of_stop (stop.BadLine n) = answer.BadLine n
+answer_of_stop (stop.Halted n h) = answer_of h n
+
+-- the answer for a line that is all there is
+abbrev pub answer_of_line : Result (List End) Halt → Answer
+answer_of_line (Ok ends) = answer.Done ends
+answer_of_line (Err h) = answer_of h 1
+
+-- the answer for lines that were done, or for what stopped them
+abbrev pub answer_of_lines : Result (List End) Stop → Answer
+answer_of_lines (Ok ends) = answer.Done ends
+answer_of_lines (Err s) = answer_of_stop s
 
 -- what comes after the lines that were done
 pub data Last (rest : List (Option Command)) (number : ℕ) (s : State) (base : Bytes) (a : Answer) (contents : Option Contents) (written : Option Bytes) : Type 0 where

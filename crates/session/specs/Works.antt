@@ -1,5 +1,6 @@
 -- What each command reads, writes, gives and refuses. A further command adds its equations here.
 use Rattle.std.specs.Prelude.{◌≡◌, ◌⊎◌, ℕ, List, [], ◌∷◌, ◌++◌, map, codes, Option, Some, None}
+use Rattle.std.specs.List.{AllByRecursion}
 use Rattle.scheme_data.specs.Decimal.{decimal_text}
 use Rattle.scheme_data.specs.declared.datum.Place.{Place}
 use Rattle.scheme_read.specs.declared.error.ReadErr.TheVariants as reading
@@ -51,8 +52,7 @@ Stands (as_object source texts) bytes = Compiled source texts bytes
 Stands (as_program compilations) bytes = IsLinkedFrom compilations bytes
 
 abbrev pub AllStand : List Held → Type 0
-AllStand [] = Unit {0}
-AllStand (h ∷ hs) = Stands h.kind h.bytes × AllStand hs
+AllStand hs = AllByRecursion (λ h. Stands h.kind h.bytes) hs
 
 -- What a command reads and writes -----------------------------------------------------------
 

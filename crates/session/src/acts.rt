@@ -3,9 +3,10 @@ ghost use Rattle.std.specs.Prelude.{◌≡◌, ◌≤◌, ◌<◌, ◌∷◌, Li
 ghost use Rattle.base_io.specs.Causes.{Rose};
 ghost use Rattle.base_io.specs.Contents.{Bytes};
 ghost use Rattle.session.specs.Works.{Held, AllStand, bytes_of, reads_of};
-ghost use Rattle.session.specs.Done.{halt_of, halt_of_link, ExportDid, CompileDid, LinkDid, Performs};
+ghost use Rattle.session.specs.Done.{make_err_of, make_err_of_link, ExportDid, CompileDid, LinkDid, Performs};
 
-use crate::answer::{Effect, Halt, Refusal};
+use crate::answer::{Effect, Refusal};
+use crate::errors::{MakeErr, WorkErr};
 use crate::running::run;
 use base_io::Sink;
 use commands::{Command, copy_all};
@@ -39,56 +40,50 @@ pub fn names_read(alloc: Global, command: &Command) -> Result<TextList, OutOfMem
     }
 }
 
-/// Why a line is not done whose source isn't compiled.
-fn halt_for(refused: UnitErr) -> Halt
-    ensures { result ≡ halt_of refused }
+/// Why nothing is made of a source.
+fn refused_source(refused: UnitErr) -> MakeErr
+    ensures { result ≡ make_err_of refused }
 {
     match refused {
-        UnitErr::Syntax(at) => Halt::Refused(Refusal::Syntax(at)),
-        UnitErr::Limit(kind) => Halt::Refused(Refusal::Limit(kind)),
-        UnitErr::NotBuilt => Halt::Refused(Refusal::NotBuilt),
-        UnitErr::Memory => Halt::Memory,
+        UnitErr::Syntax(at) => MakeErr::Refused(Refusal::Syntax(at)),
+        UnitErr::Limit(kind) => MakeErr::Refused(Refusal::Limit(kind)),
+        UnitErr::NotBuilt => MakeErr::Refused(Refusal::NotBuilt),
+        UnitErr::Memory => MakeErr::Memory,
     }
 }
 
-/// Why a line is not done whose objects aren't linked.
-fn halt_for_link(refused: LinkErr) -> Halt
-    ensures { result ≡ halt_of_link refused }
+/// Why nothing is made of objects.
+fn refused_link(refused: LinkErr) -> MakeErr
+    ensures { result ≡ make_err_of_link refused }
 {
     match refused {
         LinkErr::MissingModule(number, module_name) => {
-            Halt::Refused(Refusal::MissingModule(number, module_name))
+            MakeErr::Refused(Refusal::MissingModule(number, module_name))
         }
         LinkErr::MissingName(number, module_name, name) => {
-            Halt::Refused(Refusal::MissingName(number, module_name, name))
+            MakeErr::Refused(Refusal::MissingName(number, module_name, name))
         }
-        LinkErr::NotBuilt => Halt::Refused(Refusal::NotBuilt),
-        LinkErr::Memory => Halt::Memory,
+        LinkErr::NotBuilt => MakeErr::Refused(Refusal::NotBuilt),
+        LinkErr::Memory => MakeErr::Memory,
     }
 }
 
-fn export(alloc: Global, source: &[u8]) -> Result<Text, Halt>
+fn export(alloc: Global, source: &[u8]) -> Result<Text, MakeErr>
     ensures told { ExportDid source.now result }
-    ensures no_file_fault { (n : Bytes) → IsErrOf result (Halt.FileFault n) → ⊥ }
-    ensures no_write_fault { IsErrOf result Halt.WriteFault → ⊥ }
 {
-    make_iface(alloc, source).map_err(halt_for)
+    make_iface(alloc, source).map_err(refused_source)
 }
 
-fn compile(alloc: Global, source: &[u8], ifaces: &TextList) -> Result<Text, Halt>
+fn compile(alloc: Global, source: &[u8], ifaces: &TextList) -> Result<Text, MakeErr>
     ensures told { CompileDid source.now ifaces.now result }
-    ensures no_file_fault { (n : Bytes) → IsErrOf result (Halt.FileFault n) → ⊥ }
-    ensures no_write_fault { IsErrOf result Halt.WriteFault → ⊥ }
 {
-    compile_unit(alloc, source, ifaces).map_err(halt_for)
+    compile_unit(alloc, source, ifaces).map_err(refused_source)
 }
 
-fn join(alloc: Global, objects: &TextList) -> Result<Text, Halt>
+fn join(alloc: Global, objects: &TextList) -> Result<Text, MakeErr>
     ensures told { LinkDid objects.now result }
-    ensures no_file_fault { (n : Bytes) → IsErrOf result (Halt.FileFault n) → ⊥ }
-    ensures no_write_fault { IsErrOf result Halt.WriteFault → ⊥ }
 {
-    link(alloc, objects).map_err(halt_for_link)
+    link(alloc, objects).map_err(refused_link)
 }
 
 /// Does a command with what was read for it.
@@ -97,12 +92,11 @@ pub fn perform<K: Sink>(
     command: &Command,
     texts: &TextList,
     out: &mut K,
-) -> Result<Effect, Halt>
+) -> Result<Effect, WorkErr>
     requires { length texts.now ≡ length (reads_of command.now) }
     ensures told { (hs : List Held) → bytes_of hs ≡ texts.now → AllStand hs → Performs command.now hs (K.written out.old) (K.written out.new) result }
     ensures later { K.faults out.old ≤ K.faults out.new }
-    ensures fault { IsErrOf result Halt.WriteFault → Rose (K.faults out.old) (K.faults out.new) }
-    ensures no_file_fault { (n : Bytes) → IsErrOf result (Halt.FileFault n) → ⊥ }
+    ensures fault { IsErrOf result WorkErr.WriteFault → Rose (K.faults out.old) (K.faults out.new) }
 {
     match command {
         Command::Blank => Ok(Effect::Nothing),

@@ -1,9 +1,10 @@
-// What the program answers, and what a line does or is stopped by.
+// What the program answers, and what a line makes.
 ghost use Rattle.std.specs.Prelude.{◌≡◌};
-ghost use Rattle.session.specs.Scripts.{answer_of};
+ghost use Rattle.session.specs.Scripts.{answer_of, answer_of_stop};
 
+use crate::errors::{Halt, Stop};
 use base_io::{End, Ends};
-use scheme_data::{LimitKind, OutOfMemory, Place, Text};
+use scheme_data::{LimitKind, Place, Text};
 
 /// Why a line is refused. Objects of a link are numbered from 1.
 #[derive(Drop, Debug)]
@@ -45,26 +46,6 @@ pub enum Answer {
     Memory,
 }
 
-/// Why a line was not done.
-#[derive(Drop, Debug)]
-pub enum Halt {
-    NoFile(Text),
-    FileFault(Text),
-    WriteFault,
-    Refused(Refusal),
-    Memory,
-}
-
-impl From<OutOfMemory> for Halt {
-    ghost use Rattle.session.specs.declared.answer.Halt.TheVariants.{Memory};
-
-    ghost from_gives = { λ _ h. h ≡ Memory };
-
-    fn from(_: OutOfMemory) -> Self {
-        Halt::Memory
-    }
-}
-
 /// What a line makes, beside what it writes to the sink: nothing, a file, or the end of a run.
 #[derive(Drop, Debug)]
 pub enum Effect {
@@ -83,5 +64,15 @@ pub fn answer_for(halt: Halt, number: u64) -> Answer
         Halt::WriteFault => Answer::WriteFault,
         Halt::Refused(refusal) => Answer::Refused(number, refusal),
         Halt::Memory => Answer::Memory,
+    }
+}
+
+/// The answer where a script was not done to its end.
+pub fn answer_for_stop(stop: Stop) -> Answer
+    ensures { result ≡ answer_of_stop stop }
+{
+    match stop {
+        Stop::BadLine(number) => Answer::BadLine(number),
+        Stop::Halted(number, halt) => answer_for(halt, number),
     }
 }

@@ -3,6 +3,7 @@
 
 mod acts;
 mod answer;
+mod errors;
 mod line;
 mod outside;
 mod report;

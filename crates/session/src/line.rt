@@ -6,7 +6,8 @@ ghost use Rattle.session.specs.Scripts.{State, Agrees, LineDid};
 ghost use Rattle.session.specs.Steps.{Finished};
 
 use crate::acts::{names_read, perform};
-use crate::answer::{Effect, Halt};
+use crate::answer::Effect;
+use crate::errors::{Halt, WriteErr};
 use crate::outside::{read_all, write_one};
 use base_io::{Ends, Files, Sink};
 use commands::Command;
@@ -19,11 +20,10 @@ fn finish<F: Files>(
     files: &mut F,
     ends: &mut Ends,
     effect: Effect,
-) -> Result<(), Halt>
+) -> Result<(), WriteErr>
     ensures told { Finished (F.contents files.old) (F.contents files.new) ends.old ends.new effect result }
     ensures later { F.faults files.old ≤ F.faults files.new }
-    ensures fault { (n : Bytes) → IsErrOf result (Halt.FileFault n) → Rose (F.faults files.old) (F.faults files.new) }
-    ensures no_write_fault { IsErrOf result Halt.WriteFault → ⊥ }
+    ensures fault { (n : Bytes) → IsErrOf result (WriteErr.FileFault n) → Rose (F.faults files.old) (F.faults files.new) }
 {
     match effect {
         Effect::Nothing => Ok(()),
@@ -55,5 +55,6 @@ pub fn do_line<F: Files, K: Sink>(
     let names = names_read(alloc, command)?;
     let texts = read_all(alloc, files, names.as_slice())?;
     let effect = perform(alloc, command, &texts, out)?;
-    finish(alloc, files, ends, effect)
+    finish(alloc, files, ends, effect)?;
+    Ok(())
 }

@@ -1,29 +1,28 @@
 // One call on a handed-in object at a time.
-ghost use Rattle.std.specs.Prelude.{◌≡◌, ◌≤◌, length, IfOk, IsErrOf, OnErr};
+ghost use Rattle.std.specs.Prelude.{◌≡◌, ◌≤◌, length, IfOk, IsErrOf};
 ghost use Rattle.base_io.specs.Causes.{Rose};
 ghost use Rattle.base_io.specs.Contents.{Bytes};
-ghost use Rattle.session.specs.Outside.{ReadAll, ReadOne, WroteOne, PutAll};
+ghost use Rattle.session.specs.Outside.{ReadAll, ReadOne, WroteOne};
 
-use crate::answer::Halt;
-use base_io::{Failed, FileErr, Files, Found, Sink};
+use crate::errors::{ReadErr, WriteErr};
+use base_io::{FileErr, Files, Found};
 use scheme_data::{Text, TextList};
 use std::alloc::Global;
 
 /// Reads one file.
-pub fn read_one<F: Files>(alloc: Global, files: &mut F, name: &Text) -> Result<Text, Halt>
+pub fn read_one<F: Files>(alloc: Global, files: &mut F, name: &Text) -> Result<Text, ReadErr>
     ensures told { ReadOne (F.contents files.old) name.now result }
     ensures same { F.contents files.new ≡ F.contents files.old }
     ensures later { F.faults files.old ≤ F.faults files.new }
-    ensures fault { (n : Bytes) → IsErrOf result (Halt.FileFault n) → Rose (F.faults files.old) (F.faults files.new) }
-    ensures no_write_fault { IsErrOf result Halt.WriteFault → ⊥ }
+    ensures fault { (n : Bytes) → IsErrOf result (ReadErr.FileFault n) → Rose (F.faults files.old) (F.faults files.new) }
 {
     let copy = name.copy(alloc)?;
     let mut into = Text::new(alloc);
     match files.read(name, &mut into) {
         Ok(Found::Yes) => Ok(into),
-        Ok(Found::No) => Err(Halt::NoFile(copy)),
-        Err(FileErr::Failed) => Err(Halt::FileFault(copy)),
-        Err(FileErr::Memory) => Err(Halt::Memory),
+        Ok(Found::No) => Err(ReadErr::NoFile(copy)),
+        Err(FileErr::Failed) => Err(ReadErr::FileFault(copy)),
+        Err(FileErr::Memory) => Err(ReadErr::Memory),
     }
 }
 
@@ -33,46 +32,30 @@ pub fn write_one<F: Files>(
     files: &mut F,
     name: &Text,
     bytes: &Text,
-) -> Result<(), Halt>
+) -> Result<(), WriteErr>
     ensures told { WroteOne (F.contents files.old) (F.contents files.new) name.now bytes.now result }
     ensures later { F.faults files.old ≤ F.faults files.new }
-    ensures fault { (n : Bytes) → IsErrOf result (Halt.FileFault n) → Rose (F.faults files.old) (F.faults files.new) }
-    ensures no_write_fault { IsErrOf result Halt.WriteFault → ⊥ }
+    ensures fault { (n : Bytes) → IsErrOf result (WriteErr.FileFault n) → Rose (F.faults files.old) (F.faults files.new) }
 {
     let copy = name.copy(alloc)?;
     match files.write(name, bytes.as_bytes()) {
         Ok(()) => Ok(()),
-        Err(FileErr::Failed) => Err(Halt::FileFault(copy)),
-        Err(FileErr::Memory) => Err(Halt::Memory),
+        Err(FileErr::Failed) => Err(WriteErr::FileFault(copy)),
+        Err(FileErr::Memory) => Err(WriteErr::Memory),
     }
 }
 
 /// Reads files in order, up to the first that isn't there or can't be read.
-pub fn read_all<F: Files>(alloc: Global, files: &mut F, names: &[Text]) -> Result<TextList, Halt>
+pub fn read_all<F: Files>(alloc: Global, files: &mut F, names: &[Text]) -> Result<TextList, ReadErr>
     ensures told { ReadAll (F.contents files.old) names.now result }
     ensures count { IfOk result (λ texts. length texts ≡ length names.now) }
     ensures same { F.contents files.new ≡ F.contents files.old }
     ensures later { F.faults files.old ≤ F.faults files.new }
-    ensures fault { (n : Bytes) → IsErrOf result (Halt.FileFault n) → Rose (F.faults files.old) (F.faults files.new) }
-    ensures no_write_fault { IsErrOf result Halt.WriteFault → ⊥ }
+    ensures fault { (n : Bytes) → IsErrOf result (ReadErr.FileFault n) → Rose (F.faults files.old) (F.faults files.new) }
 {
     let mut texts = TextList::new(alloc);
     for name in names {
         texts.push(read_one(alloc, files, name)?)?;
     }
     Ok(texts)
-}
-
-/// Writes all of the bytes, or a part of them where the sink fails.
-pub fn put_all<K: Sink>(out: &mut K, bytes: &[u8]) -> Result<(), Failed>
-    ensures told { PutAll (K.written out.old) (K.written out.new) bytes.now result }
-    ensures later { K.faults out.old ≤ K.faults out.new }
-    ensures fault { OnErr result (Rose (K.faults out.old) (K.faults out.new)) }
-{
-    let mut rest = bytes;
-    while !rest.is_empty() {
-        let count = out.put(rest)?;
-        rest = &rest[count..];
-    }
-    Ok(())
 }

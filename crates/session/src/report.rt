@@ -1,21 +1,37 @@
 // What the program says of its answer: a status and one line.
-ghost use Rattle.std.specs.Prelude.{◌≡◌, ◌++◌, codes, IfOk, OnOk};
+ghost use Rattle.std.specs.Prelude.{◌≡◌, ◌++◌, codes, IfOk};
 ghost use Rattle.scheme_data.specs.Decimal.{decimal_text};
 ghost use Rattle.session.specs.Messages.{status_of, end_status, message_of, line_words, refusal_words};
 
 use crate::answer::{Answer, Refusal};
 use base_io::End;
-use scheme_data::{LimitKind, OutOfMemory, Place, Text, push_number};
+use scheme_data::{LimitKind, OutOfMemory, Place, Text, push_decimal};
 use std::alloc::Global;
+
+// The statuses where not every line was done.
+const USAGE: u8 = 240;
+const BAD_LINE: u8 = 241;
+const NO_FILE: u8 = 242;
+const FILE_FAULT: u8 = 243;
+const READ_FAULT: u8 = 244;
+const INPUT_LONG: u8 = 245;
+const WRITE_FAULT: u8 = 246;
+const REFUSED: u8 = 247;
+const NO_MEMORY: u8 = 248;
+
+// Those of runs that didn't end with a status of their own.
+const RAISED: u8 = 250;
+const SPENT: u8 = 251;
+const RUN_FAULT: u8 = 252;
 
 fn status_of_end(end: &End) -> u8
     ensures { result ≡ end_status end.now }
 {
     match end {
         End::Ended(status) => *status,
-        End::Raised(_, _) => 250,
-        End::Spent => 251,
-        End::Fault(_) => 252,
+        End::Raised(_, _) => RAISED,
+        End::Spent => SPENT,
+        End::Fault(_) => RUN_FAULT,
     }
 }
 
@@ -28,28 +44,16 @@ pub fn status(answer: &Answer) -> u8
             Some(end) => status_of_end(end),
             None => 0,
         },
-        Answer::Usage => 240,
-        Answer::BadLine(_) => 241,
-        Answer::NoFile(_) => 242,
-        Answer::FileFault(_) => 243,
-        Answer::ReadFault => 244,
-        Answer::InputLong => 245,
-        Answer::WriteFault => 246,
-        Answer::Refused(_, _) => 247,
-        Answer::Memory => 248,
+        Answer::Usage => USAGE,
+        Answer::BadLine(_) => BAD_LINE,
+        Answer::NoFile(_) => NO_FILE,
+        Answer::FileFault(_) => FILE_FAULT,
+        Answer::ReadFault => READ_FAULT,
+        Answer::InputLong => INPUT_LONG,
+        Answer::WriteFault => WRITE_FAULT,
+        Answer::Refused(_, _) => REFUSED,
+        Answer::Memory => NO_MEMORY,
     }
-}
-
-// A number in decimal, of which the first digits are those of a tenth where it is too large for them all.
-fn push_decimal(text: &mut Text, n: u64) -> Result<(), OutOfMemory>
-    ensures { OnOk result (text.new ≡ text.old ++ decimal_text n) }
-{
-    if n < 9223372036854775808 {
-        return push_number(text, n as i64);
-    }
-    push_number(text, (n / 10) as i64)?;
-    text.push(48 + (n % 10) as u8)?;
-    Ok(())
 }
 
 fn line_text(alloc: Global, number: u64, rest: &[u8]) -> Result<Text, OutOfMemory>

@@ -4,43 +4,39 @@ ghost use Rattle.base_io.specs.Causes.{Rose};
 ghost use Rattle.base_io.specs.Contents.{Bytes};
 ghost use Rattle.c_tree.specs.Functions.{items_of};
 ghost use Rattle.c_meaning.specs.Program.{cm};
-ghost use Rattle.session.specs.Outside.{PutAll};
+ghost use Rattle.base_io.specs.Writing.{PutAll};
 ghost use Rattle.session.specs.Works.{error_line, last_line, no_input};
 ghost use Rattle.session.specs.Done.{ProgramRead, Loaded, RanTo, TextRan};
 
-use crate::answer::{Halt, Refusal};
-use crate::outside::put_all;
-use base_io::{End, Failed, RunErr, Sink};
+use crate::answer::Refusal;
+use crate::errors::{MakeErr, WorkErr};
+use base_io::{End, Failed, RunErr, Sink, put_all};
 use c_check::{CheckErr, check};
 use c_machine::Machine;
 use c_read::{CReadErr, read_c};
 use c_tree::CProgram;
-use scheme_data::{OutOfMemory, Text, TextList, push_number};
+use scheme_data::{OutOfMemory, Text, TextList, push_decimal};
 use std::alloc::Global;
 
-fn read_program(alloc: Global, text: &[u8]) -> Result<CProgram, Halt>
+fn read_program(alloc: Global, text: &[u8]) -> Result<CProgram, MakeErr>
     ensures told { ProgramRead text.now result }
-    ensures no_file_fault { (n : Bytes) → IsErrOf result (Halt.FileFault n) → ⊥ }
-    ensures no_write_fault { IsErrOf result Halt.WriteFault → ⊥ }
 {
     match read_c(alloc, text) {
         Ok(program) => Ok(program),
-        Err(CReadErr::NotC) => Err(Halt::Refused(Refusal::NotBuilt)),
-        Err(CReadErr::Memory) => Err(Halt::Memory),
+        Err(CReadErr::NotC) => Err(MakeErr::Refused(Refusal::NotBuilt)),
+        Err(CReadErr::Memory) => Err(MakeErr::Memory),
     }
 }
 
 /// A machine for the program of a text.
-fn load(alloc: Global, text: &[u8]) -> Result<Machine, Halt>
+fn load(alloc: Global, text: &[u8]) -> Result<Machine, MakeErr>
     ensures told { Loaded text.now result }
-    ensures no_file_fault { (n : Bytes) → IsErrOf result (Halt.FileFault n) → ⊥ }
-    ensures no_write_fault { IsErrOf result Halt.WriteFault → ⊥ }
 {
     let program = read_program(alloc, text)?;
     match check(alloc, program) {
         Ok(checked) => Ok(Machine::new(alloc, checked)?),
-        Err(CheckErr::NotChecked) => Err(Halt::Refused(Refusal::NotBuilt)),
-        Err(CheckErr::Memory) => Err(Halt::Memory),
+        Err(CheckErr::NotChecked) => Err(MakeErr::Refused(Refusal::NotBuilt)),
+        Err(CheckErr::Memory) => Err(MakeErr::Memory),
     }
 }
 
@@ -48,10 +44,10 @@ fn error_text(alloc: Global, code: u8, text: &Text) -> Result<Text, OutOfMemory>
     ensures { IfOk result (λ line. line ≡ error_line code text.now) }
 {
     let mut line = Text::from_bytes(alloc, b"error ")?;
-    push_number(&mut line, code as i64)?;
-    line.push(32)?;
+    push_decimal(&mut line, code as u64)?;
+    line.push(b' ')?;
     line.extend(text.as_bytes())?;
-    line.push(10)?;
+    line.push(b'\n')?;
     Ok(line)
 }
 
@@ -95,16 +91,11 @@ pub fn run<K: Sink>(
     turns: u64,
     args: &TextList,
     out: &mut K,
-) -> Result<End, Halt>
+) -> Result<End, WorkErr>
     ensures told { TextRan (K.written out.old) (K.written out.new) text.now args.now turns result }
     ensures later { K.faults out.old ≤ K.faults out.new }
-    ensures fault { IsErrOf result Halt.WriteFault → Rose (K.faults out.old) (K.faults out.new) }
-    ensures no_file_fault { (n : Bytes) → IsErrOf result (Halt.FileFault n) → ⊥ }
+    ensures fault { IsErrOf result WorkErr.WriteFault → Rose (K.faults out.old) (K.faults out.new) }
 {
     let mut machine = load(alloc, text)?;
-    match run_machine(alloc, &mut machine, turns, args, out) {
-        Ok(end) => Ok(end),
-        Err(RunErr::WriteFault) => Err(Halt::WriteFault),
-        Err(RunErr::Memory) => Err(Halt::Memory),
-    }
+    Ok(run_machine(alloc, &mut machine, turns, args, out)?)
 }

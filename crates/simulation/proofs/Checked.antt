@@ -17,7 +17,7 @@ use Rattle.c_meaning.specs.Checked.{Signature, signature_of, same_signature, sig
 use Rattle.plan_rules.specs.Joined.{Part, main_function, joined}
 use Rattle.plan_rules.specs.Translation.{Name, c_name_of}
 use Rattle.simulation.specs.Law.{AreTranslated}
-use Rattle.simulation.proofs.NameKinds.{function_not_once, never_once, maker_is_once, initializer_is_once}
+use Rattle.plan_rules.proofs.NameKinds.{function_not_once, never_once, maker_is_once, initializer_is_once}
 use Rattle.c_tree.proofs.CNames.{named_function}
 use Rattle.simulation.proofs.Members.{Has}
 use Rattle.simulation.proofs.Links.{formed_at}
@@ -40,7 +40,7 @@ part_names : (ms : List ModuleTree) (parts : List Part) → AreTranslated ms par
 part_names [] [] tr = refl
 part_names [] (p ∷ ps) tr = absurd tr
 part_names (m ∷ ms) [] tr = absurd tr
-part_names (m ∷ ms) (p ∷ ps) tr = ap (λ n. n ∷ map (λ q. q.module_name) ps) tr.0 ∙ ap (λ ns. m.name ∷ ns) (part_names ms ps tr.2)
+part_names (m ∷ ms) (p ∷ ps) tr = ap (λ n. n ∷ map (λ q. q.module_name) ps) tr.0.named ∙ ap (λ ns. m.name ∷ ns) (part_names ms ps tr.1)
 
 are_names : (ms : List ModuleTree) → AreWellFormed ms → AreNames (module_names ms)
 are_names [] formed = tt
@@ -75,7 +75,7 @@ units_named : (ms : List ModuleTree) (parts : List Part) → AreTranslated ms pa
 units_named [] [] tr = tt
 units_named [] (p ∷ ps) tr = absurd tr
 units_named (m ∷ ms) [] tr = absurd tr
-units_named (m ∷ ms) (p ∷ ps) tr = named_both p.items (items_of ps) tr.1.named (units_named ms ps tr.2)
+units_named (m ∷ ms) (p ∷ ps) tr = named_both p.items (items_of ps) tr.0.translated.named (units_named ms ps tr.1)
 
 pub joined_named : (program : List ModuleTree) (parts : List Part) (is : IsProgram program) → AreTranslated program parts → NamedItems (joined parts is.main)
 joined_named program parts is tr =

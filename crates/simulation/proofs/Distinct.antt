@@ -2,8 +2,9 @@
 use Rattle.std.proofs.Common.{◌≡◌, List, [], ◌∷◌, ◌++◌, Bool, true, false, refl, sym, ap, ◌∙◌, subst}
 use Rattle.std.specs.Prelude.{map, not, ◌||◌}
 use Rattle.std.specs.List.{list_any, list_all, flat_map}
-use Rattle.std.proofs.lemmas.Bool.{and_from, and_parts}
+use Rattle.std.proofs.lemmas.Bool.{and_from, and_parts, not-true}
 use Rattle.std.proofs.lemmas.List.Folds.{list_any-append}
+use Rattle.std.specs.Cmp.Lexicographic.{bytes_decides}
 use Rattle.scheme_data.specs.Names.{are_distinct, is_same}
 use Rattle.scheme_data.specs.Symbols.{IsSymbol}
 use Rattle.core_tree.specs.Tree.{FunctionTree, ModuleTree}
@@ -14,8 +15,7 @@ use Rattle.c_meaning.specs.Checked.{defined_names, items_fit}
 use Rattle.plan_rules.specs.Joined.{Part}
 use Rattle.plan_rules.specs.Translation.{Name, DefineNothing, TrInitializer, TrFunctions, outside_of, is_sound_with, Translated}
 use Rattle.simulation.specs.Law.{AreTranslated}
-use Rattle.simulation.proofs.Names.{same_name, same_test, not_parts}
-use Rattle.simulation.proofs.NameKinds.{NameOf, a_function, a_maker, an_initializer, same_module}
+use Rattle.plan_rules.proofs.NameKinds.{NameOf, a_function, a_maker, an_initializer, same_module}
 use Rattle.simulation.proofs.Signatures.{defined_both}
 
 -- the items of all units
@@ -35,7 +35,7 @@ distinct_both (x ∷ xs) ys distinct others apart =
     let here = and_parts (not (list_any (is_same x) xs)) (are_distinct xs) distinct in
     let away = and_parts (not (list_any (is_same x) ys)) (list_all (λ y. not (list_any (is_same y) ys)) xs) apart in
     and_from (not (list_any (is_same x) (xs ++ ys))) (are_distinct (xs ++ ys))
-    (ap not (list_any-append (is_same x) xs ys ∙ ap (λ b. b || list_any (is_same x) ys) (not_parts (list_any (is_same x) xs) here.0) ∙ not_parts (list_any (is_same x) ys) away.0))
+    (ap not (list_any-append (is_same x) xs ys ∙ ap (λ b. b || list_any (is_same x) ys) (not-true (list_any (is_same x) xs) here.0) ∙ not-true (list_any (is_same x) ys) away.0))
     (distinct_both xs ys here.1 others away.1)
 
 -- The names of a unit -----------------------------------------------------------------------
@@ -74,9 +74,9 @@ away m k is_m is_k other n named (x ∷ ns) of = ap (λ b. b || list_any (is_sam
     go : (b : Bool) → is_same n x ≡ b → is_same n x ≡ false
     go false e = e
     go true e =
-        let same : n ≡ x = same_name n x e in
+        let same : n ≡ x = (bytes_decides n x).0 e in
         let one : m ≡ k = same_module m k n is_m is_k named (subst (NameOf k) (sym same) of.0) in
-        absurd (let bad : false ≡ true = sym other ∙ same_test m k one in cc)
+        absurd (let bad : false ≡ true = sym other ∙ (bytes_decides m k).1 one in cc)
 
 -- and none of those of several modules, none of which is this one
 away_from_all : (m n : Name) → IsSymbol m → NameOf m n → (ms : List ModuleTree) (parts : List Part) → AreWellFormed ms → AreTranslated ms parts → list_any (is_same m) (map (λ k. k.name) ms) ≡ false → list_any (is_same n) (defined_names (items_of parts)) ≡ false
@@ -85,11 +85,11 @@ away_from_all m n is named [] (p ∷ ps) formed tr other = absurd tr
 away_from_all m n is named (k ∷ ms) [] formed tr other = absurd tr
 away_from_all m n is named (k ∷ ms) (p ∷ ps) formed tr other =
     let apart = or_parts (is_same m k.name) (list_any (is_same m) (map (λ x. x.name) ms)) other in
-    let here : list_any (is_same n) (defined_names p.items) ≡ false = away m k.name is formed.0.name apart.0 n named (defined_names p.items) (unit_named k p.items formed.0 tr.1) in
+    let here : list_any (is_same n) (defined_names p.items) ≡ false = away m k.name is formed.0.name apart.0 n named (defined_names p.items) (unit_named k p.items formed.0 tr.0.translated) in
     ap (list_any (is_same n)) (defined_both p.items (items_of ps))
     ∙ list_any-append (is_same n) (defined_names p.items) (defined_names (items_of ps))
     ∙ ap (λ b. b || list_any (is_same n) (defined_names (items_of ps))) here
-    ∙ away_from_all m n is named ms ps formed.1 tr.2 apart.1
+    ∙ away_from_all m n is named ms ps formed.1 tr.1 apart.1
 
 all_away : (names others : List Name) (m : Name) → NamesOf m names → ((n : Name) → NameOf m n → list_any (is_same n) others ≡ false) → list_all (λ n. not (list_any (is_same n) others)) names ≡ true
 all_away [] others m named each = refl
@@ -107,11 +107,11 @@ distinct_units (m ∷ ms) (p ∷ ps) formed tr distinct =
     let own = defined_names p.items in
     let others = defined_names (items_of ps) in
     let apart = and_parts (not (list_any (is_same m.name) (map (λ x. x.name) ms))) (are_distinct (map (λ x. x.name) ms)) distinct in
-    let other : list_any (is_same m.name) (map (λ x. x.name) ms) ≡ false = not_parts (list_any (is_same m.name) (map (λ x. x.name) ms)) apart.0 in
-    let sound = and_parts (are_distinct own) (items_fit (outside_of m ++ own) [] p.items) tr.1.sound in
+    let other : list_any (is_same m.name) (map (λ x. x.name) ms) ≡ false = not-true (list_any (is_same m.name) (map (λ x. x.name) ms)) apart.0 in
+    let sound = and_parts (are_distinct own) (items_fit (outside_of m ++ own) [] p.items) tr.0.translated.sound in
     ap are_distinct (defined_both p.items (items_of ps))
-    ∙ distinct_both own others sound.0 (distinct_units ms ps formed.1 tr.2 apart.1)
-    (all_away own others m.name (unit_named m p.items formed.0 tr.1) (λ n named. away_from_all m.name n formed.0.name named ms ps formed.1 tr.2 other))
+    ∙ distinct_both own others sound.0 (distinct_units ms ps formed.1 tr.1 apart.1)
+    (all_away own others m.name (unit_named m p.items formed.0 tr.0.translated) (λ n named. away_from_all m.name n formed.0.name named ms ps formed.1 tr.1 other))
 
 pub distinct_definitions : (program : List ModuleTree) (parts : List Part) → IsProgram program → AreTranslated program parts → are_distinct (defined_names (flat_map (λ p. p.items) parts)) ≡ true
 distinct_definitions program parts is tr = distinct_units program parts is.formed tr is.distinct

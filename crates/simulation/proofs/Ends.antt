@@ -11,7 +11,7 @@ use Rattle.c_meaning.specs.State.{Cell, Frame, State as CState, put, Answer, Flo
 use Rattle.c_meaning.specs.State as c
 use Rattle.c_meaning.specs.Execution.{Lower, position_of, exec}
 use Rattle.plan_rules.specs.declared.rep.Rep.{Rep}
-use Rattle.plan_rules.specs.Translation.{Name, In, Place, into, back, deliver}
+use Rattle.plan_rules.specs.Translation.{Name, In, Target, into, back, deliver}
 use Rattle.simulation.proofs.Frames.{names, Kept, kept_same, kept_on, put_here, kept_put, Free}
 use Rattle.simulation.proofs.Worlds.{World, AtBlock, WordOf, IsRep, rep_moves, Grows, grows_same, grows_on, hide, Frozen, frozen_same, frozen_on, frozen_hidden, Same}
 use Rattle.simulation.proofs.Evaluations.{eval}
@@ -157,19 +157,19 @@ module _ (vars : List CVar) where
     reached_on b d rest holds s flow sub m h =
         record { later = h.later; g = h.g; t = h.t; is = h.is; here = h.here; moved = moved_on b d h.later s h.g sub m h.moved; same = h.same }
 
-    -- a value of a representation is at its place
-    abbrev pub Arrived : Place → Rep → Code → Base → Value → State → Flow → Type 0
+    -- a value of a representation is at its target
+    abbrev pub Arrived : Target → Rep → Code → Base → Value → State → Flow → Type 0
     Arrived (into x) r rest b v s flow = Reached b rest (λ world f. IsRep world r v (f (position_of x (names vars)))) s flow
     Arrived back r rest b v s flow = Returned b r v s flow
 
-    pub arrived_on : (place : Place) (r : Rep) (rest : Code) (b d : Base) (v : Value) (s : State) (flow : Flow) → ((x : Name) → In x b.live → In x d.live) → Moved b d.world d.state d.frame → Arrived place r rest d v s flow → Arrived place r rest b v s flow
+    pub arrived_on : (target : Target) (r : Rep) (rest : Code) (b d : Base) (v : Value) (s : State) (flow : Flow) → ((x : Name) → In x b.live → In x d.live) → Moved b d.world d.state d.frame → Arrived target r rest d v s flow → Arrived target r rest b v s flow
     arrived_on (into x) r rest b d v s flow sub m h = reached_on b d rest (λ world f. IsRep world r v (f (position_of x (names vars)))) s flow sub m h
     arrived_on back r rest b d v s flow sub m h =
         record { later = h.later; cell = h.cell; t = h.t; is = h.is; here = h.here; grows = grows_on m.grows h.grows; frozen = frozen_on m.grows m.frozen h.frozen; same = h.same }
 
-    -- a node's value goes to a place
-    abbrev pub At : Place → Rep → Code → Base → Outcome Value → Flow → Type 0
-    At place r rest b o flow = Ended (λ v s x. Arrived place r rest b v s x) b o flow
+    -- a node's value goes to a target
+    abbrev pub At : Target → Rep → Code → Base → Outcome Value → Flow → Type 0
+    At target r rest b o flow = Ended (λ v s x. Arrived target r rest b v s x) b o flow
 
     -- nobody takes a node's value
     abbrev pub Passes : {A : Type 0} → Code → Base → A → State → Flow → Type 0
@@ -178,8 +178,8 @@ module _ (vars : List CVar) where
     abbrev pub Passed : {A : Type 0} → Code → Base → Outcome A → Flow → Type 0
     Passed rest b o flow = Ended (λ v s x. Passes rest b v s x) b o flow
 
-    -- an expression's cell goes to a place
-    given : (place : Place) (r : Rep) (rest : Code) (b : Base) (v : Value) (s : State) (later : World) (cell : Cell) (t0 t : CState) (e : CExpr) → Free vars b.live place → IsRep later r v cell → Grows b.world later → Frozen b.world b.state s → Same later s t → eval p lower (names vars) e b.frame t0 ≡ c.Has cell t → Arrived place r rest b v s (exec p lower (names vars) (deliver place e rest) b.frame t0)
+    -- an expression's cell goes to a target
+    given : (target : Target) (r : Rep) (rest : Code) (b : Base) (v : Value) (s : State) (later : World) (cell : Cell) (t0 t : CState) (e : CExpr) → Free vars b.live target → IsRep later r v cell → Grows b.world later → Frozen b.world b.state s → Same later s t → eval p lower (names vars) e b.frame t0 ≡ c.Has cell t → Arrived target r rest b v s (exec p lower (names vars) (deliver target e rest) b.frame t0)
     given (into x) r rest b v s later cell t0 t e free here grows frozen same is =
         let at = position_of x (names vars) in
         record {
@@ -195,16 +195,16 @@ module _ (vars : List CVar) where
         record { later = later; cell = cell; t = t; is = ap (λ a. with a b.frame (λ k s1. c.Returns k s1)) is; here = here; grows = grows; frozen = frozen; same = same }
 
     -- where the answer is any other, the statement ends so
-    ended_so : (place : Place) (rest : Code) (f : Frame) (e : CExpr) (t : CState) (a : Answer) (flow : Flow) → eval p lower (names vars) e f t ≡ a → ((k : Cell → CState → Flow) → with a f k ≡ flow) → exec p lower (names vars) (deliver place e rest) f t ≡ flow
+    ended_so : (target : Target) (rest : Code) (f : Frame) (e : CExpr) (t : CState) (a : Answer) (flow : Flow) → eval p lower (names vars) e f t ≡ a → ((k : Cell → CState → Flow) → with a f k ≡ flow) → exec p lower (names vars) (deliver target e rest) f t ≡ flow
     ended_so (into x) rest f e t a flow is so = ap (λ z. with z f (λ k s1. exec p lower (names vars) rest (put (position_of x (names vars)) k f) s1)) is ∙ so _
     ended_so back rest f e t a flow is so = ap (λ z. with z f (λ k s1. c.Returns k s1)) is ∙ so _
 
-    pub delivered : (place : Place) (r : Rep) (rest : Code) (b : Base) (o : Outcome Value) (e : CExpr) (t : CState) → Free vars b.live place → Answered b.world b.state r o (eval p lower (names vars) e b.frame t) → At place r rest b o (exec p lower (names vars) (deliver place e rest) b.frame t)
-    delivered place r rest b (src.Gives v s) e t free h = given place r rest b v s h.later h.cell t h.t e free h.here h.grows (frozen_hidden b.world b.state s h.frozen) h.same h.is
-    delivered place r rest b (src.Escapes x v s) e t free h =
-        record { later = h.later; g = b.frame; w = h.w; j = h.j; exit = h.exit; t = h.t; is = ended_so place rest b.frame e t _ _ h.is (λ k. refl); means = h.means; moved = record { kept = kept_same vars b.live b.frame; grows = h.grows; frozen = frozen_hidden b.world b.state s h.frozen }; same = h.same }
-    delivered place r rest b (src.Raises code text s) e t free h = record { later = h.later; t = h.t; is = ended_so place rest b.frame e t _ _ h.is (λ k. refl); same = h.same }
-    delivered place r rest b (src.Spends s) e t free h = record { later = h.later; t = h.t; is = ended_so place rest b.frame e t _ _ h.is (λ k. refl); same = h.same }
+    pub delivered : (target : Target) (r : Rep) (rest : Code) (b : Base) (o : Outcome Value) (e : CExpr) (t : CState) → Free vars b.live target → Answered b.world b.state r o (eval p lower (names vars) e b.frame t) → At target r rest b o (exec p lower (names vars) (deliver target e rest) b.frame t)
+    delivered target r rest b (src.Gives v s) e t free h = given target r rest b v s h.later h.cell t h.t e free h.here h.grows (frozen_hidden b.world b.state s h.frozen) h.same h.is
+    delivered target r rest b (src.Escapes x v s) e t free h =
+        record { later = h.later; g = b.frame; w = h.w; j = h.j; exit = h.exit; t = h.t; is = ended_so target rest b.frame e t _ _ h.is (λ k. refl); means = h.means; moved = record { kept = kept_same vars b.live b.frame; grows = h.grows; frozen = frozen_hidden b.world b.state s h.frozen }; same = h.same }
+    delivered target r rest b (src.Raises code text s) e t free h = record { later = h.later; t = h.t; is = ended_so target rest b.frame e t _ _ h.is (λ k. refl); same = h.same }
+    delivered target r rest b (src.Spends s) e t free h = record { later = h.later; t = h.t; is = ended_so target rest b.frame e t _ _ h.is (λ k. refl); same = h.same }
 
     -- an expression's cell is dropped, and the statements that follow run on
     abbrev pub onto : CExpr → Code → Frame → CState → Flow

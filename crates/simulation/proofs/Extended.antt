@@ -5,6 +5,7 @@ use Rattle.std.specs.List.{list_any}
 use Rattle.std.specs.Option.{option_or}
 use Rattle.std.proofs.lemmas.Bool.{and_from, and_parts}
 use Rattle.std.proofs.lemmas.List.Folds.{find-append}
+use Rattle.std.specs.Cmp.Lexicographic.{bytes_decides}
 use Rattle.scheme_data.specs.Names.{are_distinct, is_same}
 use Rattle.c_tree.specs.declared.tree.CTy.{CTy}
 use Rattle.c_tree.specs.declared.tree.CTy.TheVariants.{Obj, Int}
@@ -17,7 +18,6 @@ use Rattle.c_tree.specs.declared.tree.CVar.{CVar}
 use Rattle.c_tree.specs.Code.{Code, done, assign, call, return, test, loop, Fun, Item, declared, defined}
 use Rattle.c_meaning.specs.Checked.{Signature, signature_named, variable_named, call_fits_signature, call_type, is_the_type, has_type, expr_fits, assigned_fits, code_fits, returns_last, variables_of, is_looped, Role, Main, Maker, Initializer, Function, role_of, same_type, same_types, is_straight, has_shape, function_fits, may_call, callable, item_fits}
 use Rattle.plan_rules.specs.Translation.{Name}
-use Rattle.simulation.proofs.Names.{same_name}
 
 -- what is found among the fewer is found among the more
 unfoldable Extends : List Signature → List Signature → Type 0
@@ -126,7 +126,7 @@ may_name role names n = may_call role (role_of n) && list_any (is_same n) names
 
 -- the test that `callable` makes depends on the name alone
 same_answer : (role : Role) (names : List Name) (n : Name) (b : Bool) → may_name role names n ≡ b → (s : Signature) → is_same s.name n ≡ true → may_name role names s.name ≡ b
-same_answer role names n b e s same = ap (may_name role names) (same_name s.name n same) ∙ e
+same_answer role names n b e s same = ap (may_name role names) ((bytes_decides s.name n).0 same) ∙ e
 
 pub callable_found : (role : Role) (names : List Name) (sigs : List Signature) (n : Name) → may_name role names n ≡ true → signature_named (callable role names sigs) n ≡ signature_named sigs n
 callable_found role names sigs n may = find_kept (λ s. is_same s.name n) (λ s. may_name role names s.name) (same_answer role names n true may) sigs

@@ -1,6 +1,8 @@
 -- Tests and coercions of arguments, left to right.
 use Rattle.std.proofs.Common.{◌≡◌, suc, List, [], ◌∷◌, length, true, false, refl, sym, ap, ◌∙◌, subst, inl, inr, eq-eqb}
 use Rattle.std.specs.Prelude.{nat_eq, if◌then◌else◌}
+use Rattle.prim_table.specs.Errors.{number_of}
+use Rattle.prim_table.specs.declared.errors.ErrCode.TheVariants.{WrongType}
 use Rattle.built_table.specs.declared.primitives.Ty.{Ty}
 use Rattle.built_table.specs.declared.primitives.Ty.TheVariants as ty
 use Rattle.built_table.specs.Table.{type_name}
@@ -21,7 +23,7 @@ use Rattle.plan_rules.specs.declared.rep.Rep.{Rep}
 use Rattle.plan_rules.specs.declared.rep.Rep.TheVariants.{Obj, Long, Bool as Truth_rep}
 use Rattle.plan_rules.specs.Representation.{rep_of, c_type_of, step}
 use Rattle.plan_rules.specs.Translation.{Name, Fits, Made, Refused, AllFit}
-use Rattle.simulation.proofs.Frames.{names, Kept, kept_same, kept_on, kept_put, put_here, Target, Within, nothing, also, within_more}
+use Rattle.simulation.proofs.Frames.{names, Kept, kept_same, kept_on, kept_put, put_here, Writable, Within, nothing, also, within_more}
 use Rattle.simulation.proofs.Worlds.{World, WordOf, IsRep, rep_moves, rep_grows, Grows, grows_same}
 use Rattle.simulation.proofs.Boxes.{Boxes, long_boxes, truth_boxes}
 
@@ -44,10 +46,10 @@ module _ (vars : List CVar) (p : List Fun) (lower : Lower) (world : World) (t : 
   abbrev runs : Code → Frame → c.Flow
   runs code f = exec p lower (names vars) code f t
 
-  -- one value is of its type and stands in a local, or error 1 is raised
+  -- one value is of its type and stands in a local, or the error of a wrong type is raised
   data OneDone (live : List Name) (f : Frame) (type : Ty) (v : Value) (code : Code) (made : Name) (rest : Code) : Type 0 where
     fine : (g : Frame) → fits type v ≡ true → runs code f ≡ runs rest g → Kept vars live f g → IsRep world (rep_of type) v (g (position_of made (names vars))) → OneDone live f type v code made rest
-    refused : fits type v ≡ false → runs code f ≡ c.Raises 1 (type_name type) t → OneDone live f type v code made rest
+    refused : fits type v ≡ false → runs code f ≡ c.Raises (number_of WrongType) (type_name type) t → OneDone live f type v code made rest
 
   as_it_is : (live : List Name) (f : Frame) (type : Ty) (v : Value) (code : Code) (temporary made : Name) (rest : Code) → code ≡ rest → made ≡ temporary → fits type v ≡ true → IsRep world (rep_of type) v (f (position_of temporary (names vars))) → OneDone live f type v code made rest
   as_it_is live f type v code temporary made rest is e ok here =
@@ -57,13 +59,13 @@ module _ (vars : List CVar) (p : List Fun) (lower : Lower) (world : World) (t : 
   made_so : (o : Op) (live : List Name) (f : Frame) (type : Ty) (v : Value) (code : Code) (temporary made : Name) (rest : Code) (cell new : Cell) → Made vars o live temporary (c_type_of (rep_of type)) code made rest → fits type v ≡ true → f (position_of temporary (names vars)) ≡ cell → operate o (ACell cell ∷ []) t ≡ c.Has new t → IsRep world (rep_of type) v new → OneDone live f type v code made rest
   made_so o live f type v code temporary made rest cell new h ok is does here =
       let at = position_of made (names vars) in
-      let target : Target vars live made = record { fresh = h.fresh; type = c_type_of (rep_of type); is_local = h.is_local } in
+      let writable : Writable vars live made = record { fresh = h.fresh; type = c_type_of (rep_of type); is_local = h.is_local } in
       fine (put at new f) ok
       (ap (λ x. runs x f) h.is ∙ ap (λ a. with a f (λ k s1. exec p lower (names vars) rest (put at k f) s1)) (ap (λ k. operate o (ACell k ∷ []) t) is ∙ does))
-      (kept_put vars live made new f target)
+      (kept_put vars live made new f writable)
       (rep_moves world (rep_of type) v new (put at new f at) (put_here at new f) here)
 
-  refused_so : (o : Op) (live : List Name) (f : Frame) (type : Ty) (v : Value) (code : Code) (temporary made : Name) (rest : Code) (cell : Cell) → Made vars o live temporary (c_type_of (rep_of type)) code made rest → fits type v ≡ false → f (position_of temporary (names vars)) ≡ cell → operate o (ACell cell ∷ []) t ≡ c.Stops 1 (type_name type) t → OneDone live f type v code made rest
+  refused_so : (o : Op) (live : List Name) (f : Frame) (type : Ty) (v : Value) (code : Code) (temporary made : Name) (rest : Code) (cell : Cell) → Made vars o live temporary (c_type_of (rep_of type)) code made rest → fits type v ≡ false → f (position_of temporary (names vars)) ≡ cell → operate o (ACell cell ∷ []) t ≡ c.Stops (number_of WrongType) (type_name type) t → OneDone live f type v code made rest
   refused_so o live f type v code temporary made rest cell h bad is does =
       let at = position_of made (names vars) in
       refused bad (ap (λ x. runs x f) h.is ∙ ap (λ a. with a f (λ k s1. exec p lower (names vars) rest (put at k f) s1)) (ap (λ k. operate o (ACell k ∷ []) t) is ∙ does))
@@ -104,19 +106,19 @@ module _ (vars : List CVar) (p : List Fun) (lower : Lower) (world : World) (t : 
   -- all of them
   pub data AllDone (live : List Name) (f : Frame) (ts : List Ty) (vs : List Value) (code : Code) (made : List Name) (rest : Code) : Type 0 where
     passed : (g : Frame) → ((next : Outcome Value) → tested ts vs s next ≡ next) → runs code f ≡ runs rest g → Kept vars live f g → AllArgs vars world g ts vs made → AllDone live f ts vs code made rest
-    failed : (type : Ty) → ((next : Outcome Value) → tested ts vs s next ≡ src.Raises 1 (type_name type) s) → runs code f ≡ c.Raises 1 (type_name type) t → AllDone live f ts vs code made rest
+    failed : (type : Ty) → ((next : Outcome Value) → tested ts vs s next ≡ src.Raises (number_of WrongType) (type_name type) s) → runs code f ≡ c.Raises (number_of WrongType) (type_name type) t → AllDone live f ts vs code made rest
 
   then_others : (live : List Name) (f g : Frame) (type : Ty) (v : Value) (ts : List Ty) (vs : List Value) (code middle rest : Code) (first : Name) (others : List Name) → fits type v ≡ true → runs code f ≡ runs middle g → Kept vars live f g → IsRep world (rep_of type) v (g (position_of first (names vars))) → AllDone (first ∷ live) g ts vs middle others rest → AllDone live f (type ∷ ts) (v ∷ vs) code (first ∷ others) rest
   then_others live f g type v ts vs code middle rest first others ok e kept here (passed h so e2 kept2 all) =
       let at = position_of first (names vars) in
-      passed h (λ next. ap (λ b. if b then tested ts vs s next else src.Raises 1 (type_name type) s) ok ∙ so next) (e ∙ e2) (kept_on vars (λ x i. inr i) kept kept2) (argument (rep_moves world (rep_of type) v (g at) (h at) (kept2.by first (inl refl)) here) ok all)
+      passed h (λ next. ap (λ b. if b then tested ts vs s next else src.Raises (number_of WrongType) (type_name type) s) ok ∙ so next) (e ∙ e2) (kept_on vars (λ x i. inr i) kept kept2) (argument (rep_moves world (rep_of type) v (g at) (h at) (kept2.by first (inl refl)) here) ok all)
   then_others live f g type v ts vs code middle rest first others ok e kept here (failed wrong so e2) =
-      failed wrong (λ next. ap (λ b. if b then tested ts vs s next else src.Raises 1 (type_name type) s) ok ∙ so next) (e ∙ e2)
+      failed wrong (λ next. ap (λ b. if b then tested ts vs s next else src.Raises (number_of WrongType) (type_name type) s) ok ∙ so next) (e ∙ e2)
 
   one_others : (live : List Name) (f : Frame) (type : Ty) (v : Value) (ts : List Ty) (vs : List Value) (code middle rest : Code) (first : Name) (others : List Name) → OneDone live f type v code first middle → ((g : Frame) → Kept vars live f g → AllDone (first ∷ live) g ts vs middle others rest) → AllDone live f (type ∷ ts) (v ∷ vs) code (first ∷ others) rest
   one_others live f type v ts vs code middle rest first others (fine g ok e kept here) go = then_others live f g type v ts vs code middle rest first others ok e kept here (go g kept)
   one_others live f type v ts vs code middle rest first others (refused bad e) go =
-      failed type (λ next. ap (λ b. if b then tested ts vs s next else src.Raises 1 (type_name type) s) bad) e
+      failed type (λ next. ap (λ b. if b then tested ts vs s next else src.Raises (number_of WrongType) (type_name type) s) bad) e
 
   pub all_done : (ts : List Ty) (hs : List Rep) (vs : List Value) (temporaries live : List Name) (code : Code) (made : List Name) (rest : Code) (f : Frame) → AllFit vars ts hs temporaries live code made rest → AllRep vars world f hs vs temporaries → Within live temporaries → AllDone live f ts vs code made rest
   all_done [] [] _ [] live code made rest f h no_values w =

@@ -108,9 +108,9 @@ unit_of [] [] m are h = absurd h
 unit_of [] (p ∷ ps) m are h = absurd are
 unit_of (x ∷ ms) [] m are h = absurd are
 unit_of (x ∷ ms) (p ∷ ps) m are (inl same) =
-    record { items = p.items; translated = subst (λ y. Translated y p.items) same are.1; within = λ g d. defined_before p.items (flat_map (λ q. q.items) ps) g d }
+    record { items = p.items; translated = subst (λ y. Translated y p.items) same are.0.translated; within = λ g d. defined_before p.items (flat_map (λ q. q.items) ps) g d }
 unit_of (x ∷ ms) (p ∷ ps) m are (inr h) =
-    let u = unit_of ms ps m are.2 h in
+    let u = unit_of ms ps m are.1 h in
     record { items = u.items; translated = u.translated; within = λ g d. defined_after p.items (flat_map (λ q. q.items) ps) g (u.within g d) }
 
 -- Functions of the program ------------------------------------------------------------------

@@ -2,14 +2,14 @@
 use Rattle.std.proofs.Common.{◌≡◌, ℕ, suc, List, [], ◌∷◌, ◌++◌, Bool, true, false, refl, sym, ap, ◌∙◌, subst, inl, inr, arith, eq-eqb}
 use Rattle.std.specs.Prelude.{map, Some, ◌==◌, if◌then◌else◌}
 use Rattle.std.proofs.lemmas.Bool.{eqb-true}
+use Rattle.std.specs.Cmp.Lexicographic.{bytes_decides, nat_list_eq_equiv}
 use Rattle.scheme_data.specs.Names.{is_same}
 use Rattle.c_tree.specs.declared.tree.CTy.{CTy}
 use Rattle.c_tree.specs.declared.tree.CVar.{CVar}
 use Rattle.c_meaning.specs.State.{Cell, Frame, put}
 use Rattle.c_meaning.specs.Execution.{Names, position_of}
 use Rattle.c_meaning.specs.Checked.{is_typed, variable_named}
-use Rattle.plan_rules.specs.Translation.{Name, In, Fresh, IsLocal, Place, into, back}
-use Rattle.simulation.proofs.Names.{same_name, turned}
+use Rattle.plan_rules.specs.Translation.{Name, In, Fresh, IsLocal, Target, into, back}
 
 abbrev pub names : List CVar → Names
 names vars = map (λ v. v.name) vars
@@ -20,11 +20,11 @@ one_position [] x y t here e = absurd (cc)
 one_position (v ∷ vs) x y t here e = go (is_same x v.name) (is_same y v.name) refl refl e (λ further below. one_position vs x y t further below)
   where
     go : (p q : Bool) → is_same x v.name ≡ p → is_same y v.name ≡ q → (if p then 0 else suc (position_of x (names vs))) ≡ (if q then 0 else suc (position_of y (names vs))) → (IsLocal vs y t → position_of x (names vs) ≡ position_of y (names vs) → x ≡ y) → x ≡ y
-    go true true ex ey same later = same_name x v.name ex ∙ sym (same_name y v.name ey)
+    go true true ex ey same later = (bytes_decides x v.name).0 ex ∙ sym ((bytes_decides y v.name).0 ey)
     go true false ex ey same later = absurd (omega arith)
     go false true ex ey same later = absurd (omega arith)
     go false false ex ey same later =
-        let further : IsLocal vs y t = ap (λ z. is_typed t (if z then Some v else variable_named vs y)) (sym (turned y v.name false ey)) ∙ here in
+        let further : IsLocal vs y t = ap (λ z. is_typed t (if z then Some v else variable_named vs y)) (sym (nat_list_eq_equiv.symm v.name y ∙ ey)) ∙ here in
         let below : position_of x (names vs) ≡ position_of y (names vs) = omega arith in
         later further below
 
@@ -48,18 +48,18 @@ kept_same vars live f = record { by = λ x i. refl }
 pub kept_on : (vars : List CVar) {live more : List Name} {f g h : Frame} → ((x : Name) → In x live → In x more) → Kept vars live f g → Kept vars more g h → Kept vars live f h
 kept_on vars sub k l = record { by = λ x i. l.by x (sub x i) ∙ k.by x i }
 
--- where a value may go: a local that isn't live
-pub record Target (vars : List CVar) (live : List Name) (x : Name) : Type 0 where
+-- a local that a value may go to: one that isn't live
+pub record Writable (vars : List CVar) (live : List Name) (x : Name) : Type 0 where
   pub fresh : Fresh x live
   pub type : CTy
   pub is_local : IsLocal vars x type
 
-abbrev pub Free : List CVar → List Name → Place → Type 0
-Free vars live (into x) = Target vars live x
+abbrev pub Free : List CVar → List Name → Target → Type 0
+Free vars live (into x) = Writable vars live x
 Free vars live back = Unit {0}
 
-pub kept_put : (vars : List CVar) (live : List Name) (x : Name) (c : Cell) (f : Frame) → Target vars live x → Kept vars live f (put (position_of x (names vars)) c f)
-kept_put vars live x c f target = record { by = λ y i. put_other (position_of x (names vars)) (position_of y (names vars)) c f (λ e. target.fresh (subst (λ z. In z live) (one_position vars y x target.type target.is_local e) i)) }
+pub kept_put : (vars : List CVar) (live : List Name) (x : Name) (c : Cell) (f : Frame) → Writable vars live x → Kept vars live f (put (position_of x (names vars)) c f)
+kept_put vars live x c f writable = record { by = λ y i. put_other (position_of x (names vars)) (position_of y (names vars)) c f (λ e. writable.fresh (subst (λ z. In z live) (one_position vars y x writable.type writable.is_local e) i)) }
 
 -- membership
 

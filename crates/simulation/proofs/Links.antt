@@ -3,6 +3,7 @@ use Rattle.std.proofs.Common.{◌≡◌, ℕ, List, [], ◌∷◌, length, true,
 use Rattle.std.specs.Prelude.{slice_get}
 use Rattle.std.specs.List.{list_all}
 use Rattle.std.proofs.lemmas.Cmp.{nat_eq_equiv}
+use Rattle.std.specs.Cmp.Lexicographic.{bytes_decides}
 use Rattle.scheme_data.specs.Names.{is_same}
 use Rattle.iface_text.specs.declared.interface.Row.{Row}
 use Rattle.core_tree.specs.declared.tree.GlobalRef.TheVariants.{Own, Used}
@@ -12,7 +13,6 @@ use Rattle.core_tree.specs.Tree.{FunctionTree, ModuleTree, Callee, function_name
 use Rattle.core_tree.specs.WellFormed.{IsWellFormed}
 use Rattle.meaning.specs.Procedures.{Procedure, module_named, found_in, procedure_in, procedure_of, takes, is_there}
 use Rattle.meaning.specs.Program.{AreWellFormed, IsProgram}
-use Rattle.simulation.proofs.Names.{same_name}
 use Rattle.simulation.proofs.Members.{Has, has_at, all_have, passing, found_by_name}
 use Rattle.simulation.proofs.Callees.{Linked}
 
@@ -30,7 +30,7 @@ placed_in program c q m at None is e = absurd (cc)
 placed_in program c q m at (Some f) is e =
     let home = passing (λ x. is_same x.name c.module_name) program m at in
     let function = passing (is_called c.name) m.functions f is in
-    let here : Placed program c (record { home = m; function = f }) = record { home = home.member; home_named = same_name m.name c.module_name home.passes; function = function.member; function_named = same_name f.name c.name function.passes } in
+    let here : Placed program c (record { home = m; function = f }) = record { home = home.member; home_named = (bytes_decides m.name c.module_name).0 home.passes; function = function.member; function_named = (bytes_decides f.name c.name).0 function.passes } in
     let same : record { home = m; function = f } ≡ q = cc in
     subst (λ x. Placed program c x) same here
 

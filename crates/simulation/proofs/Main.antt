@@ -7,6 +7,8 @@ use Rattle.scheme_data.specs.Decimal.{decimal_text}
 use Rattle.base_io.specs.declared.end.End.{End}
 use Rattle.base_io.specs.declared.end.End.TheVariants.{Ended, Raised, Spent}
 use Rattle.base_io.specs.Observation.{Observation}
+use Rattle.prim_table.specs.Errors.{number_of}
+use Rattle.prim_table.specs.declared.errors.ErrCode.TheVariants.{ArgumentCount}
 use Rattle.core_tree.specs.declared.tree.VarId.{VarId}
 use Rattle.core_tree.specs.Tree.{FunctionTree, ModuleTree, Callee}
 use Rattle.meaning.specs.Value.{Value, Fixnum, Boolean, Empty, Unspecified, Object, State, Outcome, bind, take_turn}
@@ -19,6 +21,7 @@ use Rattle.meaning.specs.Program.{src, observed, status_of, initialized, IsProgr
 use Rattle.meaning.specs.Program as program_of
 use Rattle.c_tree.specs.declared.tree.CAtom.TheVariants as atom
 use Rattle.c_tree.specs.declared.tree.CExpr.TheVariants as expr
+use Rattle.c_tree.specs.declared.op.Op.TheVariants.{Status}
 use Rattle.c_tree.specs.declared.tree.CTy.TheVariants as c_ty
 use Rattle.c_tree.specs.declared.tree.CVar.{CVar}
 use Rattle.c_tree.specs.Code.{Fun, Code, done, loop, return}
@@ -26,7 +29,7 @@ use Rattle.c_tree.specs.Names.{maker_name, initializer_name}
 use Rattle.c_meaning.specs.Word.{Word, Nil, Unspec}
 use Rattle.c_meaning.specs.Word as word
 use Rattle.c_meaning.specs.State.{Cell, AWord, State as CState, Frame, put, frame_of, Answer, Has as HasCell, Flow, Next, Goes, Returns, Escapes, Raises, Spends, Fails, with, after, answer}
-use Rattle.c_meaning.specs.Operations.{ACell, status, status_in}
+use Rattle.c_meaning.specs.Operations.{ACell, operate, status_in}
 use Rattle.c_meaning.specs.Execution.{Lower, fun_named, names_of, entry, iterate, looped, run, enter, enter_any, exec, exec_main}
 use Rattle.c_meaning.specs.Checked.{defined_names}
 use Rattle.c_meaning.specs.Program.{cm, functions_of, shown, start, run_main, main_of}
@@ -61,7 +64,7 @@ main_frame = put 0 (AWord Nil) first_frame
 
 -- `main` after its call of the main function
 abbrev main_ends : Answer → Observation
-main_ends a = shown (with a main_frame (λ k t. with (status (ACell k ∷ []) t) (put 1 k main_frame) (λ k2 t2. Returns k2 t2)))
+main_ends a = shown (with a main_frame (λ k t. with (operate Status (ACell k ∷ []) t) (put 1 k main_frame) (λ k2 t2. Returns k2 t2)))
 
 -- what is left of `main`
 abbrev main_runs : List Fun → Lower → Code → CState → Flow
@@ -101,7 +104,7 @@ seen output end = record { output = output; end = end }
 
 ends_alike : (world : World) (s0 : State) (o : Outcome Value) (a : Answer) → Answered world s0 Obj o a → main_ends a ≡ observed o
 ends_alike world s0 (source.Gives v s) a h =
-    ap main_ends (h.is) ∙ ap (λ k. shown (with (status (ACell k ∷ []) h.t) (put 1 h.cell main_frame) (λ k2 t2. Returns k2 t2))) h.here.is
+    ap main_ends (h.is) ∙ ap (λ k. shown (with (operate Status (ACell k ∷ []) h.t) (put 1 h.cell main_frame) (λ k2 t2. Returns k2 t2))) h.here.is
     ∙ ap (λ x. seen x (Ended (status_in h.here.w))) (sym h.same.output) ∙ ap (λ n. seen s.output (Ended n)) (status_alike h.later v h.here.w h.here.means)
 ends_alike world s0 (source.Escapes x v s) a h = ap main_ends h.is ∙ ap (λ x. seen x (Raised 7 [])) (sym h.same.output)
 ends_alike world s0 (source.Raises code text s) a h = ap main_ends h.is ∙ ap (λ x. seen x (Raised code text)) (sym h.same.output)
@@ -189,11 +192,11 @@ same_names : (ms : List ModuleTree) (parts : List Part) → AreTranslated ms par
 same_names [] [] are = refl
 same_names [] (q ∷ qs) are = absurd are
 same_names (m ∷ ms) [] are = absurd are
-same_names (m ∷ ms) (q ∷ qs) are = ap (λ n. n ∷ map (λ x. x.module_name) qs) are.0 ∙ ap (λ ns. m.name ∷ ns) (same_names ms qs are.2)
+same_names (m ∷ ms) (q ∷ qs) are = ap (λ n. n ∷ map (λ x. x.module_name) qs) are.0.named ∙ ap (λ ns. m.name ∷ ns) (same_names ms qs are.1)
 
 -- a function of one parameter is called with one value
 counted_one : {A : Type 0} (f : FunctionTree) (x : VarId) → f.params ≡ x ∷ [] → (s : State) (o : Outcome A) → counted (length f.params) 1 s o ≡ o
-counted_one f x one s o = ap (λ ps. if nat_eq 1 (length ps) then o else source.Raises 2 (decimal_text (length ps)) s) one
+counted_one f x one s o = ap (λ ps. if nat_eq 1 (length ps) then o else source.Raises (number_of ArgumentCount) (decimal_text (length ps)) s) one
 
 -- the call of the main function, and its value's status
 main_does : (p : List Fun) (program : List ModuleTree) (is : IsProgram program) (turns limit : ℕ) → CallsDo p (run p turns) program (evaluation.run program turns) limit → Found p (c_name_of is.main) (TrFunction is.function.home is.function.function) → (world : World) (s : State) (t : CState) → Same world s t → s.turns ≤ limit → shown (main_runs p (run p turns) (call_main (c_name_of is.main)) t) ≡ observed (program_of.run_main program (evaluation.run program turns) s)

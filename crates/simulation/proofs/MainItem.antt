@@ -2,9 +2,10 @@
 use Rattle.std.proofs.Common.{◌≡◌, List, [], ◌∷◌, ◌++◌, Bool, true, false, Option, Some, None, refl, sym, ap, ◌∙◌, inl, inr}
 use Rattle.std.specs.Prelude.{map, not, ◌||◌, if◌then◌else◌, IsTrue}
 use Rattle.std.specs.List.{list_any, list_all}
-use Rattle.std.proofs.lemmas.Bool.{and_from, and_parts}
+use Rattle.std.proofs.lemmas.Bool.{and_from, and_parts, not-true}
 use Rattle.std.proofs.lemmas.List.{append-nil}
 use Rattle.std.proofs.lemmas.List.Folds.{list_any-append, list_all-append}
+use Rattle.std.specs.Cmp.Lexicographic.{bytes_decides}
 use Rattle.scheme_data.specs.Names.{are_distinct, is_same}
 use Rattle.scheme_data.specs.Symbols.{IsSymbol}
 use Rattle.core_tree.specs.Tree.{ModuleTree}
@@ -15,14 +16,14 @@ use Rattle.c_tree.specs.declared.tree.CVar.{CVar}
 use Rattle.c_tree.specs.Code.{Code}
 use Rattle.c_tree.specs.Names.{maker_name, initializer_name, is_function_name, is_local_name}
 use Rattle.c_tree.specs.Spelling.{NamedCode, NamedItem}
-use Rattle.c_meaning.specs.Checked.{Signature, signature_named, same_type, AType, arguments_fit, call_fits_signature, is_the_type, has_type, code_fits, returns_last, Main, callable, item_fits, defined_names, is_called_once, once_in, once_in_main, all_called}
+use Rattle.c_tree.specs.declared.op.Wants.TheVariants.{AType}
+use Rattle.c_meaning.specs.Checked.{Signature, signature_named, same_type, arguments_fit, call_fits_signature, is_the_type, has_type, code_fits, returns_last, Main, callable, item_fits, defined_names, is_called_once, once_in, once_in_main, all_called}
 use Rattle.plan_rules.specs.Representation.{local}
 use Rattle.plan_rules.specs.Joined.{Part, first_local, second_local, calls_alone, call_main, main_code, main_function}
 use Rattle.plan_rules.specs.Translation.{Name}
 use Rattle.simulation.specs.Law.{AreTranslated}
-use Rattle.simulation.proofs.Names.{other_name, same_test, not_parts}
 use Rattle.c_tree.proofs.CNames.{maker_name_part, initializer_name_part}
-use Rattle.simulation.proofs.NameKinds.{NameOf, a_function, a_maker, an_initializer, maker_is_once, initializer_is_once, function_not_once, other_kinds}
+use Rattle.plan_rules.proofs.NameKinds.{NameOf, a_function, a_maker, an_initializer, maker_is_once, initializer_is_once, function_not_once, other_kinds, other_name}
 use Rattle.c_tree.proofs.CNames.{named_maker, named_initializer}
 use Rattle.simulation.proofs.Members.{Has, named_there}
 use Rattle.simulation.proofs.Signatures.{or_later, defined_both}
@@ -112,7 +113,7 @@ others_of : (of : Name → Name) → Injective of → (m : Name) (ms : List Name
 others_of of parts m [] other = refl
 others_of of parts m (k ∷ ms) other =
     let apart = or_parts (is_same m k) (list_any (is_same m) ms) other in
-    ap (λ b. b || list_any (is_same (of m)) (map of ms)) (other_name (of m) (of k) (λ e. absurd (let bad : false ≡ true = sym apart.0 ∙ same_test m k (parts m k e) in cc)))
+    ap (λ b. b || list_any (is_same (of m)) (map of ms)) (other_name (of m) (of k) (λ e. absurd (let bad : false ≡ true = sym apart.0 ∙ (bytes_decides m k).1 (parts m k e) in cc)))
     ∙ others_of of parts m ms apart.1
 
 distinct_of : (of : Name → Name) → Injective of → (ms : List Name) → are_distinct ms ≡ true → are_distinct (map of ms) ≡ true
@@ -120,7 +121,7 @@ distinct_of of parts [] distinct = refl
 distinct_of of parts (m ∷ ms) distinct =
     let apart = and_parts (not (list_any (is_same m) ms)) (are_distinct ms) distinct in
     and_from (not (list_any (is_same (of m)) (map of ms))) (are_distinct (map of ms))
-    (ap not (others_of of parts m ms (not_parts (list_any (is_same m) ms) apart.0)))
+    (ap not (others_of of parts m ms (not-true (list_any (is_same m) ms) apart.0)))
     (distinct_of of parts ms apart.1)
 
 no_initializer : (m : Name) → IsSymbol m → (ks : List Name) → list_any (is_same (maker_name m)) (map initializer_name ks) ≡ false
@@ -167,5 +168,5 @@ units_met names (m ∷ ms) (p ∷ ps) within formed tr =
     ap (all_called called) (defined_both p.items (items_of ps))
     ∙ list_all-append (is_met called) (defined_names p.items) (defined_names (items_of ps))
     ∙ and_from (all_called called (defined_names p.items)) (all_called called (defined_names (items_of ps)))
-    (unit_met names m.name (within m (inl refl)) (defined_names p.items) (unit_named m p.items formed.0 tr.1))
-    (units_met names ms ps (λ k h. within k (inr h)) formed.1 tr.2)
+    (unit_met names m.name (within m (inl refl)) (defined_names p.items) (unit_named m p.items formed.0 tr.0.translated))
+    (units_met names ms ps (λ k h. within k (inr h)) formed.1 tr.1)

@@ -2,10 +2,10 @@
 use Rattle.std.proofs.Common.{◌≡◌, List, [], ◌∷◌, ◌++◌, Bool, true, false, Some, refl, sym, ap, ◌∙◌, inl, inr, ◌⊎◌}
 use Rattle.std.specs.Prelude.{ℕ, zero, suc, find, map, not, ◌||◌, slice_get, if◌then◌else◌}
 use Rattle.std.specs.List.{list_all, list_any}
-use Rattle.std.proofs.lemmas.Bool.{and_from, and_parts}
+use Rattle.std.proofs.lemmas.Bool.{and_from, and_parts, not-true}
+use Rattle.std.specs.Cmp.Lexicographic.{bytes_decides}
 use Rattle.scheme_data.specs.Names.{are_distinct, is_same}
 use Rattle.plan_rules.specs.Translation.{Name}
-use Rattle.simulation.proofs.Names.{same_name, same_test, not_parts}
 
 abbrev pub Has : {X : Type 0} → List X → X → Type 0
 Has [] x = ⊥
@@ -52,7 +52,7 @@ passing test (y ∷ ys) x e = go (test y) refl e (λ e1. passing test ys x e1)
 -- the name of a member is among the names
 pub named_there : {X : Type 0} (name : X → Name) (xs : List X) (x : X) → Has xs x → list_any (is_same (name x)) (map name xs) ≡ true
 named_there name [] x h = absurd h
-named_there name (y ∷ ys) x (inl e) = ap (λ b. b || list_any (is_same (name x)) (map name ys)) (same_test (name x) (name y) (ap name (sym e)))
+named_there name (y ∷ ys) x (inl e) = ap (λ b. b || list_any (is_same (name x)) (map name ys)) ((bytes_decides (name x) (name y)).1 (ap name (sym e)))
 named_there name (y ∷ ys) x (inr h) = go (is_same (name x) (name y)) (named_there name ys x h)
   where
     go : (b : Bool) → list_any (is_same (name x)) (map name ys) ≡ true → (b || list_any (is_same (name x)) (map name ys)) ≡ true
@@ -62,7 +62,7 @@ named_there name (y ∷ ys) x (inr h) = go (is_same (name x) (name y)) (named_th
 -- with distinct names, each member is found by its name
 pub found_by_name : {X : Type 0} (name : X → Name) (xs : List X) (x : X) → Has xs x → are_distinct (map name xs) ≡ true → find (λ y. is_same (name y) (name x)) xs ≡ Some x
 found_by_name name [] x h distinct = absurd h
-found_by_name name (y ∷ ys) x (inl e) distinct = ap (λ b. if b then Some y else find (λ z. is_same (name z) (name x)) ys) (same_test (name y) (name x) (ap name e)) ∙ ap (λ z. Some z) e
+found_by_name name (y ∷ ys) x (inl e) distinct = ap (λ b. if b then Some y else find (λ z. is_same (name z) (name x)) ys) ((bytes_decides (name y) (name x)).1 (ap name e)) ∙ ap (λ z. Some z) e
 found_by_name name (y ∷ ys) x (inr h) distinct = ap (λ b. if b then Some y else find (λ z. is_same (name z) (name x)) ys) (other (is_same (name y) (name x)) refl) ∙ found_by_name name ys x h parts.1
   where
     parts : (not (list_any (is_same (name y)) (map name ys)) ≡ true) × (are_distinct (map name ys) ≡ true)
@@ -70,5 +70,5 @@ found_by_name name (y ∷ ys) x (inr h) distinct = ap (λ b. if b then Some y el
 
     other : (b : Bool) → is_same (name y) (name x) ≡ b → is_same (name y) (name x) ≡ false
     other true eb =
-        let bad : false ≡ true = sym (not_parts (list_any (is_same (name y)) (map name ys)) parts.0) ∙ ap (λ n. list_any (is_same n) (map name ys)) (same_name (name y) (name x) eb) ∙ named_there name ys x h in absurd (cc)
+        let bad : false ≡ true = sym (not-true (list_any (is_same (name y)) (map name ys)) parts.0) ∙ ap (λ n. list_any (is_same n) (map name ys)) ((bytes_decides (name y) (name x)).0 eb) ∙ named_there name ys x h in absurd (cc)
     other false eb = eb

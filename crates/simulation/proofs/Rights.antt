@@ -6,6 +6,7 @@ use Rattle.std.proofs.lemmas.Bool.{and_from, eqb-true}
 use Rattle.std.proofs.lemmas.List.Elements.{All-contains}
 use Rattle.std.proofs.lemmas.List.Folds.{list_all-append, list_all-map}
 use Rattle.std.proofs.lemmas.List.Sums.{AllPass-from_list_all}
+use Rattle.std.specs.Cmp.Lexicographic.{bytes_decides}
 use Rattle.scheme_data.specs.Names.{is_same}
 use Rattle.scheme_data.specs.Symbols.{IsSymbol}
 use Rattle.core_tree.specs.declared.tree.VarId.{VarId}
@@ -19,9 +20,8 @@ use Rattle.c_tree.specs.Code.{Fun, Item, declared, defined}
 use Rattle.c_tree.specs.Names.{maker_name, is_main}
 use Rattle.c_meaning.specs.Checked.{Signature, signature_of, same_signature, signature_named, agrees, is_called_once}
 use Rattle.plan_rules.specs.Translation.{Name, TrFunction, IsEmpty, DefineNothing, TrForms, TrInitializer, TrFunctions, callees, IsDeclared, AreDeclared, c_name_of, Translated}
-use Rattle.simulation.proofs.Names.{same_name, not_main}
 use Rattle.c_tree.proofs.CNames.{function_name_parts}
-use Rattle.simulation.proofs.NameKinds.{never_once, maker_is_once, initializer_is_once}
+use Rattle.plan_rules.proofs.NameKinds.{never_once, maker_is_once, initializer_is_once, function_not_main}
 use Rattle.simulation.proofs.Members.{Has, all_have, each_passes}
 use Rattle.simulation.proofs.Links.{placed, formed_at, own_there}
 use Rattle.simulation.proofs.Signatures.{after, signature_same}
@@ -108,17 +108,17 @@ found_right program [] n s right e = absurd (cc)
 found_right program (t ∷ sigs) n s right e = go (is_same t.name n) refl e (λ q. found_right program sigs n s right.1 q)
   where
     go : (b : Bool) → is_same t.name n ≡ b → (if b then Some t else signature_named sigs n) ≡ Some s → (signature_named sigs n ≡ Some s → FoundRight program n s) → FoundRight program n s
-    go true eb q later = let same : t ≡ s = cc in subst (λ y. FoundRight program n y) same (record { named = same_name t.name n eb; right = right.0 })
+    go true eb q later = let same : t ≡ s = cc in subst (λ y. FoundRight program n y) same (record { named = (bytes_decides t.name n).0 eb; right = right.0 })
     go false eb q later = later q
 
 -- none is of `main`
 pub right_not_main : (program : List ModuleTree) (s : Signature) → Right program s → is_main s.name ≡ false
-right_not_main program s (inl h) = ap is_main h.named ∙ not_main h.callee.module_name h.callee.name
+right_not_main program s (inl h) = ap is_main h.named ∙ function_not_main h.callee.module_name h.callee.name
 right_not_main program s (inr h) = go (is_main s.name) refl
   where
     go : (b : Bool) → is_main s.name ≡ b → is_main s.name ≡ false
     go false e = e
-    go true e = absurd (let bad : false ≡ true = sym (ap is_called_once (same_name s.name (codes "main") e)) ∙ h.once in cc)
+    go true e = absurd (let bad : false ≡ true = sym (ap is_called_once ((bytes_decides s.name (codes "main")).0 e)) ∙ h.once in cc)
 
 -- Two of one name ---------------------------------------------------------------------------
 
@@ -146,7 +146,7 @@ right_agrees program formed (t ∷ sigs) s all right =
   where
     go : (b : Bool) → is_same t.name s.name ≡ b → (not b || same_signature t s) ≡ true
     go false e = refl
-    go true e = right_same program formed t s all.0 right (same_name t.name s.name e)
+    go true e = right_same program formed t s all.0 right ((bytes_decides t.name s.name).0 e)
 
 -- The signatures of a unit ------------------------------------------------------------------
 

@@ -2,7 +2,8 @@
 use Rattle.std.proofs.Common.{◌≡◌, ℕ, suc, ◌≤◌, List, [], ◌∷◌, ◌++◌, length, Bool, true, false, Some, refl, sym, ap, ◌∙◌, subst, inl, inr, arith}
 use Rattle.std.specs.Prelude.{map, not, ◌||◌, if◌then◌else◌}
 use Rattle.std.specs.List.{list_any}
-use Rattle.std.proofs.lemmas.Bool.{and_parts}
+use Rattle.std.proofs.lemmas.Bool.{and_parts, not-true}
+use Rattle.std.specs.Cmp.Lexicographic.{nat_list_eq_equiv}
 use Rattle.scheme_data.specs.Names.{are_distinct, is_same}
 use Rattle.core_tree.specs.declared.tree.VarId.{VarId}
 use Rattle.core_tree.specs.WellFormed.{same_variable}
@@ -16,7 +17,7 @@ use Rattle.plan_rules.specs.declared.rep.Rep.{Rep}
 use Rattle.plan_rules.specs.declared.rep.Rep.TheVariants.{Obj}
 use Rattle.plan_rules.specs.Representation.{Slot, PlainAt, Scope, slot_of}
 use Rattle.plan_rules.specs.Translation.{Name, In, Fresh, scope_of}
-use Rattle.simulation.proofs.Names.{is_itself, other_name, not_parts}
+use Rattle.plan_rules.proofs.NameKinds.{other_name}
 use Rattle.simulation.proofs.Frames.{names, Kept}
 use Rattle.simulation.proofs.Worlds.{World, IsRep, rep_moves, rep_grows, Grows, Words, no_words, a_word, Same}
 use Rattle.simulation.proofs.Ends.{Base, Moved}
@@ -91,7 +92,7 @@ scoped_under v vars world f live fresh (variable here others) = variable (slot_u
 
 not_in : (x : Name) (ps locals : List CVar) → list_any (is_same x) (names (ps ++ locals)) ≡ false → Fresh x (names ps)
 not_in x [] locals e i = i
-not_in x (p ∷ ps) locals e (inl q) = go (is_same x p.name) (ap (is_same x) (sym q) ∙ is_itself x) e
+not_in x (p ∷ ps) locals e (inl q) = go (is_same x p.name) (ap (is_same x) (sym q) ∙ nat_list_eq_equiv.refl x) e
   where
     go : (b : Bool) → b ≡ true → (b || list_any (is_same x) (names (ps ++ locals))) ≡ false → ⊥
     go true e1 e2 = absurd (cc)
@@ -114,7 +115,7 @@ parameters world (x ∷ xs) (p ∷ ps) locals blanks (a_word {v = v} {c = c} {vs
     let f = frame_of (c ∷ cs ++ blanks) in
     let below : length vs ≡ length xs = omega (arith, e) in
     let types_below : map (λ v. v.ty) ps ≡ map (λ _. c_ty.Obj) xs = cc in
-    let fresh : Fresh p.name (names ps) = not_in p.name ps locals (not_parts (list_any (is_same p.name) (names (ps ++ locals))) parts.0) in
-    let at : position_of p.name (names (p ∷ ps ++ locals)) ≡ 0 = ap (λ b. if b then 0 else suc (position_of p.name (names (ps ++ locals)))) (is_itself p.name) in
+    let fresh : Fresh p.name (names ps) = not_in p.name ps locals (not-true (list_any (is_same p.name) (names (ps ++ locals))) parts.0) in
+    let at : position_of p.name (names (p ∷ ps ++ locals)) ≡ 0 = ap (λ b. if b then 0 else suc (position_of p.name (names (ps ++ locals)))) (nat_list_eq_equiv.refl p.name) in
     variable (record { here = rep_moves world Obj v c (f (position_of p.name (names (p ∷ ps ++ locals)))) (ap f at) here; live_name = inl refl })
     (scoped_under p (ps ++ locals) world f (names ps) fresh (parameters world xs ps locals blanks others below types_below parts.1))

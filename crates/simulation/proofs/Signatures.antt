@@ -3,13 +3,13 @@ use Rattle.std.proofs.Common.{◌≡◌, List, [], ◌∷◌, ◌++◌, Bool, tr
 use Rattle.std.specs.Prelude.{◌&&◌, ◌||◌, if◌then◌else◌}
 use Rattle.std.specs.List.{list_any}
 use Rattle.std.proofs.lemmas.Bool.{and_from, and_parts}
+use Rattle.std.specs.Cmp.Lexicographic.{nat_list_eq_equiv}
 use Rattle.scheme_data.specs.Names.{is_same}
 use Rattle.c_tree.specs.declared.tree.CTy.{CTy}
 use Rattle.c_tree.specs.declared.tree.CTy.TheVariants.{Obj, Long, Char, Int}
 use Rattle.c_tree.specs.Code.{Item, declared, defined}
 use Rattle.c_meaning.specs.Checked.{Signature, signature_of, same_type, same_types, same_signature, signature_named, agrees, item_fits, items_fit, defined_names}
 use Rattle.plan_rules.specs.Translation.{Name}
-use Rattle.simulation.proofs.Names.{turned}
 
 -- the signatures after these items, the newest first
 abbrev pub after : List Item → List Signature → List Signature
@@ -66,7 +66,7 @@ defined_has (declared t k ps ∷ is) sigs n e = defined_has is (signature_of (de
 defined_has (defined g ∷ is) sigs n e = go (is_same n g.name) refl e (λ e1. defined_has is (signature_of (defined g) ∷ sigs) n e1)
   where
     go : (b : Bool) → is_same n g.name ≡ b → (b || list_any (is_same n) (defined_names is)) ≡ true → (list_any (is_same n) (defined_names is) ≡ true → has_signature (after is (signature_of (defined g) ∷ sigs)) n ≡ true) → has_signature (after is (signature_of (defined g) ∷ sigs)) n ≡ true
-    go true eb q later = stays_signed is (signature_of (defined g) ∷ sigs) n (ap (λ b. b || has_signature sigs n) (turned n g.name true eb))
+    go true eb q later = stays_signed is (signature_of (defined g) ∷ sigs) n (ap (λ b. b || has_signature sigs n) (nat_list_eq_equiv.symm g.name n ∙ eb))
     go false eb q later = later q
 
 -- a function that is defined has a signature

@@ -4,6 +4,7 @@ use Rattle.std.specs.Prelude.{map, ◌&&◌, ◌||◌, Some}
 use Rattle.std.specs.List.{list_any, list_all}
 use Rattle.std.proofs.lemmas.Bool.{and_from, and_parts}
 use Rattle.std.proofs.lemmas.List.Folds.{list_any-append}
+use Rattle.std.specs.Cmp.Lexicographic.{bytes_decides}
 use Rattle.scheme_data.specs.Names.{are_distinct, is_same}
 use Rattle.core_tree.specs.Tree.{ModuleTree, Callee, used_callees}
 use Rattle.meaning.specs.Procedures.{Procedure, procedure_of, is_there}
@@ -15,7 +16,6 @@ use Rattle.c_meaning.specs.Program.{functions_of}
 use Rattle.plan_rules.specs.Joined.{Part}
 use Rattle.plan_rules.specs.Translation.{Name, TrFunction, IsEmpty, TrForms, c_name_of, outside_of, is_sound_with, Translated}
 use Rattle.simulation.specs.Law.{AreTranslated}
-use Rattle.simulation.proofs.Names.{same_name}
 use Rattle.simulation.proofs.Members.{Has, all_have, named_there}
 use Rattle.simulation.proofs.Links.{placed}
 use Rattle.simulation.proofs.Found.{names_of_functions, Defined, function_defined, maker_defined, initializer_defined, Unit_of, unit_of}
@@ -87,7 +87,7 @@ outside_among program more defines (c ∷ cs) all n e = go (is_same n (c_name_of
     parts = and_parts (is_there program c) (list_all (is_there program) cs) all
 
     go : (b : Bool) → is_same n (c_name_of c) ≡ b → (b || list_any (is_same n) (map c_name_of cs)) ≡ true → (list_any (is_same n) (map c_name_of cs) ≡ true → list_any (is_same n) more ≡ true) → list_any (is_same n) more ≡ true
-    go true eb q later = let h = there program c parts.0 in ap (λ y. list_any (is_same y) more) (same_name n (c_name_of c) eb) ∙ defines c h.procedure h.at
+    go true eb q later = let h = there program c parts.0 in ap (λ y. list_any (is_same y) more) ((bytes_decides n (c_name_of c)).0 eb) ∙ defines c h.procedure h.at
     go false eb q later = later q
 
 either_among : (xs ys more : List Name) → AreAmong xs more → AreAmong ys more → AreAmong (xs ++ ys) more
@@ -113,7 +113,7 @@ module _ (program : List ModuleTree) (is_program : IsProgram program) (more : Li
   units_right [] (p ∷ ps) within tr = absurd tr
   units_right (m ∷ ms) [] within tr = absurd tr
   units_right (m ∷ ms) (p ∷ ps) within tr =
-      both_right program p.items (items_of ps) (unit_right program is_program m (within m (inl refl)) p.items tr.1) (units_right ms ps (λ x h. within x (inr h)) tr.2)
+      both_right program p.items (items_of ps) (unit_right program is_program m (within m (inl refl)) p.items tr.0.translated) (units_right ms ps (λ x h. within x (inr h)) tr.1)
 
   pub units_fit : (ms : List ModuleTree) (parts : List Part) (before : List Signature) → ((m : ModuleTree) → Has ms m → Has program m) → AreTranslated ms parts → AllRight program before → AreAmong (defined_names (items_of parts)) more → items_fit more before (items_of parts) ≡ true
   units_fit [] [] before within tr all own = refl
@@ -122,5 +122,5 @@ module _ (program : List ModuleTree) (is_program : IsProgram program) (more : Li
   units_fit (m ∷ ms) (p ∷ ps) before within tr all own =
       let here = within m (inl refl) in
       fit_both more p.items (items_of ps) before
-      (unit_fits m p.items before here tr.1 all (λ n e. own n (defined_first p.items (items_of ps) n e)))
-      (units_fit ms ps (after p.items before) (λ x h. within x (inr h)) tr.2 (after_right program p.items before (unit_right program is_program m here p.items tr.1) all) (λ n e. own n (defined_later p.items (items_of ps) n e)))
+      (unit_fits m p.items before here tr.0.translated all (λ n e. own n (defined_first p.items (items_of ps) n e)))
+      (units_fit ms ps (after p.items before) (λ x h. within x (inr h)) tr.1 (after_right program p.items before (unit_right program is_program m here p.items tr.0.translated) all) (λ n e. own n (defined_later p.items (items_of ps) n e)))

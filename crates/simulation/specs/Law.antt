@@ -1,5 +1,6 @@
 -- The law.
-use Rattle.std.specs.Prelude.{◌≡◌, ℕ, List, [], ◌∷◌}
+use Rattle.std.specs.Prelude.{◌≡◌, ℕ, List}
+use Rattle.std.specs.List.{AllZip}
 use Rattle.core_tree.specs.Tree.{ModuleTree, Callee}
 use Rattle.meaning.specs.Program.{src, IsProgram}
 use Rattle.c_tree.specs.Spelling.{NamedItems}
@@ -8,11 +9,14 @@ use Rattle.c_meaning.specs.Checked.{IsChecked}
 use Rattle.plan_rules.specs.Joined.{Part, joined}
 use Rattle.plan_rules.specs.Translation.{Translated}
 
+-- the unit of a module, under its name
+pub record IsUnitOf (m : ModuleTree) (p : Part) : Type 0 where
+  pub named : p.module_name ≡ m.name
+  pub translated : Translated m p.items
+
 -- the units of these modules, in this order
 abbrev pub AreTranslated : List ModuleTree → List Part → Type 0
-AreTranslated [] [] = Unit {0}
-AreTranslated (m ∷ ms) (p ∷ ps) = (p.module_name ≡ m.name) × Translated m p.items × AreTranslated ms ps
-AreTranslated _ _ = ⊥
+AreTranslated ms ps = AllZip IsUnitOf ms ps
 
 -- what the linked program of modules is
 pub record IsFaithful (program : List ModuleTree) (parts : List Part) (main : Callee) : Type 0 where

@@ -1,5 +1,6 @@
 -- The interface and the module of a source, and the object that it is compiled to.
 use Rattle.std.specs.Prelude.{◌≡◌, ℕ, List, [], ◌∷◌, Some, Result, Ok, Err}
+use Rattle.std.specs.List.{AllZip}
 use Rattle.scheme_data.specs.Data.{plain_all}
 use Rattle.scheme_data.specs.declared.datum.Datum.{Datum}
 use Rattle.scheme_data.specs.declared.datum.Place.{Place}
@@ -42,9 +43,7 @@ pub record NotExported (source : List ℕ) : Type 0 where
 
 -- the texts are those of these interfaces
 abbrev pub AreTexts : List (List ℕ) → List IfaceTree → Type 0
-AreTexts [] [] = Unit {0}
-AreTexts (text ∷ texts) (i ∷ is) = IsText text i × AreTexts texts is
-AreTexts _ _ = ⊥
+AreTexts texts ifaces = AllZip IsText texts ifaces
 
 -- the source's data are those of this module, where it is compiled with these interface texts
 pub record IsModuleOf (source : List ℕ) (texts : List (List ℕ)) (m : ModuleTree) : Type 0 where

@@ -1,5 +1,6 @@
 -- What reading the interfaces, and making a module of a source's data with them, answers.
-use Rattle.std.specs.Prelude.{◌≡◌, ℕ, List, [], ◌∷◌, map, Some, None, Result, Ok, Err}
+use Rattle.std.specs.Prelude.{◌≡◌, ℕ, List, map, Some, None, Result, Ok, Err}
+use Rattle.std.specs.List.{AllZip}
 use Rattle.scheme_data.specs.Data.{plain_all}
 use Rattle.scheme_data.specs.declared.datum.Datum.{Datum}
 use Rattle.iface_text.specs.declared.interface.Iface.{Iface}
@@ -21,9 +22,7 @@ pub record IsOnlyText (text : List ℕ) (i : IfaceTree) : Type 0 where
   pub only : (j : IfaceTree) → IsText text j → j ≡ i
 
 abbrev pub AreOnlyTexts : List (List ℕ) → List IfaceTree → Type 0
-AreOnlyTexts [] [] = Unit {0}
-AreOnlyTexts (text ∷ texts) (i ∷ is) = IsOnlyText text i × AreOnlyTexts texts is
-AreOnlyTexts _ _ = ⊥
+AreOnlyTexts texts ifaces = AllZip IsOnlyText texts ifaces
 
 abbrev pub ReadsOne : List ℕ → Result Iface UnitErr → Type 0
 ReadsOne text (Ok i) = IsOnlyText text (iface_tree i)

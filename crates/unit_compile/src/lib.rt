@@ -8,6 +8,3 @@ mod export;
 pub use compile::compile_unit;
 pub use error::UnitErr;
 pub use export::make_iface;
-
-#[cfg(test)]
-mod tests;

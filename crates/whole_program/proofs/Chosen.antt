@@ -5,7 +5,8 @@ use Rattle.std.specs.Option.{option_map}
 use Rattle.std.proofs.lemmas.Bool.{and_from, not_from_false, or_parts, or_from, or_left, or_right, eq-eqb, false_from_ne_true, true≢false}
 use Rattle.std.proofs.lemmas.Option.{slice_get-map}
 use Rattle.scheme_data.specs.Names.{are_distinct, is_same}
-use Rattle.meaning.specs.Order.{is_marked, onto_chosen, chosen}
+use Rattle.std.specs.List.{cons_option}
+use Rattle.meaning.specs.Order.{is_marked, chosen}
 use Rattle.whole_program.proofs.Members.{Among, one_place, same_name}
 use Rattle.whole_program.proofs.Visits.{Once, either}
 
@@ -22,16 +23,16 @@ pub standing : {A : Type 0} (xs : List A) (ks : List ℕ) (x : A) → Among x (c
 standing xs [] x i = absurd i
 standing {A = A} xs (k ∷ ks) x i = go (slice_get xs k) refl i (λ j. further xs k ks x (standing xs ks x j))
   where
-    go : (q : Option A) → slice_get xs k ≡ q → Among x (onto_chosen q (chosen xs ks)) → (Among x (chosen xs ks) → Standing xs (k ∷ ks) x) → Standing xs (k ∷ ks) x
+    go : (q : Option A) → slice_get xs k ≡ q → Among x (cons_option q (chosen xs ks)) → (Among x (chosen xs ks) → Standing xs (k ∷ ks) x) → Standing xs (k ∷ ks) x
     go None e j others = others j
     go (Some y) e (inl same) others = record { place = k; chosen_place = or_left (nat_eq k k) (is_marked ks k) (eq-eqb k k refl); stands = e ∙ ap Some (sym same) }
     go (Some y) e (inr j) others = others j
 
-among_first : {A : Type 0} (q : Option A) (xs : List A) (x : A) → q ≡ Some x → Among x (onto_chosen q xs)
+among_first : {A : Type 0} (q : Option A) (xs : List A) (x : A) → q ≡ Some x → Among x (cons_option q xs)
 among_first None xs x e = absurd (cc)
 among_first (Some y) xs x e = let same : x ≡ y = cc in inl same
 
-among_later : {A : Type 0} (q : Option A) (xs : List A) (x : A) → Among x xs → Among x (onto_chosen q xs)
+among_later : {A : Type 0} (q : Option A) (xs : List A) (x : A) → Among x xs → Among x (cons_option q xs)
 among_later None xs x i = i
 among_later (Some y) xs x i = inr i
 
@@ -44,7 +45,7 @@ is_chosen xs (j ∷ js) k x e i =
 
 -- Distinct names ----------------------------------------------------------------------------
 
-none_onto : {A : Type 0} (name : A → List ℕ) (p : List ℕ → Bool) (q : Option A) (xs : List A) → ((x : A) → q ≡ Some x → p (name x) ≡ false) → list_any p (map name xs) ≡ false → list_any p (map name (onto_chosen q xs)) ≡ false
+none_onto : {A : Type 0} (name : A → List ℕ) (p : List ℕ → Bool) (q : Option A) (xs : List A) → ((x : A) → q ≡ Some x → p (name x) ≡ false) → list_any p (map name xs) ≡ false → list_any p (map name (cons_option q xs)) ≡ false
 none_onto name p None xs first later = later
 none_onto name p (Some x) xs first later = or_from (p (name x)) (list_any p (map name xs)) (first x refl) later
 
@@ -61,7 +62,7 @@ apart {A = A} name xs d k x e (j ∷ js) i =
         (slice_get-map name xs k ∙ ap (option_map name) e)
         (slice_get-map name xs j ∙ ap (option_map name) f ∙ ap Some (sym (same_name (name x) (name y) s)))
 
-distinct_onto : {A : Type 0} (name : A → List ℕ) (q : Option A) (xs : List A) → ((x : A) → q ≡ Some x → list_any (is_same (name x)) (map name xs) ≡ false) → are_distinct (map name xs) ≡ true → are_distinct (map name (onto_chosen q xs)) ≡ true
+distinct_onto : {A : Type 0} (name : A → List ℕ) (q : Option A) (xs : List A) → ((x : A) → q ≡ Some x → list_any (is_same (name x)) (map name xs) ≡ false) → are_distinct (map name xs) ≡ true → are_distinct (map name (cons_option q xs)) ≡ true
 distinct_onto name None xs first later = later
 distinct_onto name (Some x) xs first later =
     and_from (not (list_any (is_same (name x)) (map name xs))) (are_distinct (map name xs)) (not_from_false (list_any (is_same (name x)) (map name xs)) (first x refl)) later

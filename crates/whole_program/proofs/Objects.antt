@@ -14,7 +14,9 @@ use Rattle.core_tree.specs.declared.tree.ImportItem.{ImportItem}
 use Rattle.core_tree.specs.declared.tree.Use.{Use}
 use Rattle.core_tree.specs.Tree.{ModuleTree}
 use Rattle.core_tree.specs.WellFormed.{module_of, row_of, IsWellFormed}
-use Rattle.meaning.specs.Order.{has_some, onto_chosen, chosen}
+use Rattle.std.specs.List.{cons_option}
+use Rattle.std.specs.Option.{is_some}
+use Rattle.meaning.specs.Order.{chosen}
 use Rattle.meaning.specs.Program.{main_in, main_of}
 use Rattle.simulation.specs.Law.{AreTranslated}
 use Rattle.object_text.specs.Format.{ObjectTree}
@@ -23,7 +25,8 @@ use Rattle.unit_compile.specs.Compilation.{IsObjectOf}
 use Rattle.linker.specs.declared.linking.LinkErr.{LinkErr}
 use Rattle.linker.specs.declared.linking.LinkErr.TheVariants.{MissingModule}
 use Rattle.linker.specs.Links as links
-use Rattle.linker.specs.Links.{names_of, object_named, exported_row, current_row, same_type, same_types, same_kind, agrees, are_current, or_else, first_refused, missing_module, missing_modules, missing_names, are_modules, has_one_main, most_modules, unless, link_refusal, part_of}
+use Rattle.std.specs.Option.{option_or}
+use Rattle.linker.specs.Links.{names_of, object_named, exported_row, current_row, same_type, same_types, same_kind, agrees, are_current, first_refused, missing_module, missing_modules, missing_names, are_modules, has_one_main, most_modules, unless, link_refusal, part_of}
 use Rattle.linker.proofs.Refused.{one_main}
 use Rattle.whole_program.proofs.Members.{each_of, each_to, only_passing}
 use Rattle.whole_program.proofs.Rows.{HasRow, named, interface_in}
@@ -69,7 +72,7 @@ parallel_at (m ∷ ms) [] h k = absurd h
 parallel_at (m ∷ ms) (o ∷ os) h zero = h.0
 parallel_at (m ∷ ms) (o ∷ os) h (suc k) = parallel_at ms os h.1 k
 
-parallel_onto : (q : Option ModuleTree) (r : Option ObjectTree) (ms : List ModuleTree) (os : List ObjectTree) → Parallel q r → AreObjectsOf ms os → AreObjectsOf (onto_chosen q ms) (onto_chosen r os)
+parallel_onto : (q : Option ModuleTree) (r : Option ObjectTree) (ms : List ModuleTree) (os : List ObjectTree) → Parallel q r → AreObjectsOf ms os → AreObjectsOf (cons_option q ms) (cons_option r os)
 parallel_onto None None ms os p h = h
 parallel_onto None (Some o) ms os p h = absurd p
 parallel_onto (Some m) None ms os p h = absurd p
@@ -83,7 +86,7 @@ pub translated : (ms : List ModuleTree) (os : List ObjectTree) → AreObjectsOf 
 translated [] [] h = tt
 translated [] (o ∷ os) h = absurd h
 translated (m ∷ ms) [] h = absurd h
-translated (m ∷ ms) (o ∷ os) h = (h.0.name, h.0.translated, translated ms os h.1)
+translated (m ∷ ms) (o ∷ os) h = (record { named = h.0.name; translated = h.0.translated }, translated ms os h.1)
 
 pub same_main : (ms : List ModuleTree) (os : List ObjectTree) → AreObjectsOf ms os → links.main_of os ≡ main_of ms
 same_main [] [] h = refl
@@ -141,7 +144,7 @@ current ifaces u e = go (row_for ifaces (module_of u) (row_of u).name) refl e
 
 -- Links -------------------------------------------------------------------------------------
 
-both_none : (a b : Option LinkErr) → or_else a b ≡ None → (a ≡ None) × (b ≡ None)
+both_none : (a b : Option LinkErr) → option_or a b ≡ None → (a ≡ None) × (b ≡ None)
 both_none None b e = (refl, e)
 both_none (Some x) b e = absurd (cc)
 
@@ -157,9 +160,9 @@ record AreAccepted (os : List ObjectTree) : Type 0 where
 
 accepted : (os : List ObjectTree) → link_refusal os ≡ None → AreAccepted os
 accepted os e =
-    let first = both_none (unless (are_modules os)) (or_else (missing_modules os) (or_else (missing_names os) (or_else (unless (are_current os)) (unless (has_one_main os))))) e in
-    let second = both_none (missing_modules os) (or_else (missing_names os) (or_else (unless (are_current os)) (unless (has_one_main os)))) first.1 in
-    let third = both_none (missing_names os) (or_else (unless (are_current os)) (unless (has_one_main os))) second.1 in
+    let first = both_none (unless (are_modules os)) (option_or (missing_modules os) (option_or (missing_names os) (option_or (unless (are_current os)) (unless (has_one_main os))))) e in
+    let second = both_none (missing_modules os) (option_or (missing_names os) (option_or (unless (are_current os)) (unless (has_one_main os)))) first.1 in
+    let third = both_none (missing_names os) (option_or (unless (are_current os)) (unless (has_one_main os))) second.1 in
     let fourth = both_none (unless (are_current os)) (unless (has_one_main os)) third.1 in
     record {
       distinct = (and_parts (not (nat_lt most_modules (length os))) (are_distinct (names_of os)) (unless_none (are_modules os) first.0)).1;
@@ -182,15 +185,15 @@ all_present names n (o ∷ os) e =
     (imports_present names n o.imports parts.0, all_present names (suc n) os parts.1)
 
 -- as many modules as objects have a main function
-same_count : (ms : List ModuleTree) (os : List ObjectTree) → AreObjectsOf ms os → length (filter (λ (o : ObjectTree). has_some o.main) os) ≡ length (filter (λ (m : ModuleTree). has_some m.main) ms)
+same_count : (ms : List ModuleTree) (os : List ObjectTree) → AreObjectsOf ms os → length (filter (λ (o : ObjectTree). is_some o.main) os) ≡ length (filter (λ (m : ModuleTree). is_some m.main) ms)
 same_count [] [] h = refl
 same_count [] (o ∷ os) h = absurd h
 same_count (m ∷ ms) [] h = absurd h
 same_count (m ∷ ms) (o ∷ os) h =
-    ap (λ q. length (cond (has_some q) (o ∷ filter (λ (p : ObjectTree). has_some p.main) os) (filter (λ (p : ObjectTree). has_some p.main) os))) h.0.main ∙ go (has_some m.main) (same_count ms os h.1)
+    ap (λ q. length (cond (is_some q) (o ∷ filter (λ (p : ObjectTree). is_some p.main) os) (filter (λ (p : ObjectTree). is_some p.main) os))) h.0.main ∙ go (is_some m.main) (same_count ms os h.1)
   where
-    go : (b : Bool) → length (filter (λ (p : ObjectTree). has_some p.main) os) ≡ length (filter (λ (n : ModuleTree). has_some n.main) ms)
-        → length (cond b (o ∷ filter (λ (p : ObjectTree). has_some p.main) os) (filter (λ (p : ObjectTree). has_some p.main) os)) ≡ length (cond b (m ∷ filter (λ (n : ModuleTree). has_some n.main) ms) (filter (λ (n : ModuleTree). has_some n.main) ms))
+    go : (b : Bool) → length (filter (λ (p : ObjectTree). is_some p.main) os) ≡ length (filter (λ (n : ModuleTree). is_some n.main) ms)
+        → length (cond b (o ∷ filter (λ (p : ObjectTree). is_some p.main) os) (filter (λ (p : ObjectTree). is_some p.main) os)) ≡ length (cond b (m ∷ filter (λ (n : ModuleTree). is_some n.main) ms) (filter (λ (n : ModuleTree). is_some n.main) ms))
     go true later = ap suc later
     go false later = later
 
@@ -207,7 +210,7 @@ linkable ms os h formed e = record {
       (each_to (λ (o : ObjectTree). list_all (λ u. agrees (row_of u) (current_row os u)) o.uses ≡ true) (λ (o : ObjectTree). Each (HasRow (map interface_in ms)) o.uses)
       (λ o q. each_to (λ u. agrees (row_of u) (current_row os u) ≡ true) (HasRow (map interface_in ms)) (λ u r. current (map interface_in ms) u (ap (agrees (row_of u)) (sym (same_rows ms os h (module_of u) (row_of u).name)) ∙ r)) o.uses (each_of (λ u. agrees (row_of u) (current_row os u)) o.uses q))
       os (each_of (λ (o : ObjectTree). list_all (λ u. agrees (row_of u) (current_row os u)) o.uses) os all.are_current_all));
-  one_main = only_passing (λ (m : ModuleTree). has_some m.main) ms (sym (same_count ms os h) ∙ eqb-true (length (filter (λ (o : ObjectTree). has_some o.main) os)) 1 (one_main os e));
+  one_main = only_passing (λ (m : ModuleTree). is_some m.main) ms (sym (same_count ms os h) ∙ eqb-true (length (filter (λ (o : ObjectTree). is_some o.main) os)) 1 (one_main os e));
 }
   where
     all : AreAccepted os

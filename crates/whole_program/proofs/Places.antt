@@ -9,7 +9,9 @@ use Rattle.std.proofs.lemmas.List.Quantifiers.{position-Some}
 use Rattle.name_table.specs.Names.{has_name, place_of}
 use Rattle.core_tree.specs.declared.tree.ImportItem.{ImportItem}
 use Rattle.core_tree.specs.Tree.{ModuleTree}
-use Rattle.meaning.specs.Order.{is_marked, onto_numbers, numbers_of, imports_of, imported, or_none}
+use Rattle.std.specs.List.{cons_option}
+use Rattle.std.specs.Option.{unwrap_or}
+use Rattle.meaning.specs.Order.{is_marked, numbers_of, imports_of, imported}
 use Rattle.whole_program.proofs.Members.{Among, same_name}
 
 -- Names -------------------------------------------------------------------------------------
@@ -46,11 +48,11 @@ placed names x h = record { place = place; is = is; stands = slice_get-get_or na
 
 -- Numbers -----------------------------------------------------------------------------------
 
-marked_first : (q : Option ℕ) (ns : List ℕ) (j : ℕ) → q ≡ Some j → is_marked (onto_numbers q ns) j ≡ true
+marked_first : (q : Option ℕ) (ns : List ℕ) (j : ℕ) → q ≡ Some j → is_marked (cons_option q ns) j ≡ true
 marked_first None ns j e = absurd (cc)
 marked_first (Some n) ns j e = let same : j ≡ n = cc in or_left (nat_eq j n) (is_marked ns j) (eq-eqb j n same)
 
-marked_later : (q : Option ℕ) (ns : List ℕ) (j : ℕ) → is_marked ns j ≡ true → is_marked (onto_numbers q ns) j ≡ true
+marked_later : (q : Option ℕ) (ns : List ℕ) (j : ℕ) → is_marked ns j ≡ true → is_marked (cons_option q ns) j ≡ true
 marked_later None ns j h = h
 marked_later (Some n) ns j h = or_right (nat_eq j n) (is_marked ns j) h
 
@@ -63,7 +65,7 @@ numbered names (x ∷ xs) i (inr h) j e = marked_later (place_of x.module_name n
 -- what the module at a place imports
 pub imports_at : (names : List (List ℕ)) (ms : List ModuleTree) (k : ℕ) (m : ModuleTree) → slice_get ms k ≡ Some m → imported (imports_of names (map (λ n. n.imports) ms)) k ≡ numbers_of names m.imports
 imports_at names ms k m e =
-    ap or_none (slice_get-map (numbers_of names) (map (λ (n : ModuleTree). n.imports) ms) k ∙ ap (option_map (numbers_of names)) (slice_get-map (λ (n : ModuleTree). n.imports) ms k ∙ ap (option_map (λ (n : ModuleTree). n.imports)) e))
+    ap (λ (o : Option (List ℕ)). unwrap_or o []) (slice_get-map (numbers_of names) (map (λ (n : ModuleTree). n.imports) ms) k ∙ ap (option_map (numbers_of names)) (slice_get-map (λ (n : ModuleTree). n.imports) ms k ∙ ap (option_map (λ (n : ModuleTree). n.imports)) e))
 
 -- Modules -----------------------------------------------------------------------------------
 

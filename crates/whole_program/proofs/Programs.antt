@@ -13,7 +13,8 @@ use Rattle.core_tree.specs.declared.tree.Use.{Use}
 use Rattle.core_tree.specs.declared.tree.Use.TheVariants.{From, Need}
 use Rattle.core_tree.specs.Tree.{FunctionTree, ModuleTree, Callee, function_named, params_in, row_callee, used_callees}
 use Rattle.core_tree.specs.WellFormed.{takes as takes_name, IsUse, AreUses, IsMain, IsWellFormed, is_exported, takes_as_many}
-use Rattle.meaning.specs.Order.{imports_of, is_marked, has_some, IsOrder, chosen}
+use Rattle.std.specs.Option.{is_some}
+use Rattle.meaning.specs.Order.{imports_of, is_marked, IsOrder, chosen}
 use Rattle.meaning.specs.Procedures.{module_named, found_in, procedure_in, procedure_of, takes, is_there}
 use Rattle.meaning.specs.Program.{main_in, main_of, AreWellFormed, are_linked, IsProgram}
 use Rattle.resolver.specs.Elaboration.{interface_named, row_in, row_for}
@@ -29,7 +30,7 @@ pub record AreLinkable (ms : List ModuleTree) : Type 0 where
   pub distinct : are_distinct (map (λ m. m.name) ms) ≡ true
   pub present : Each (λ m. Each (λ i. has_name (map (λ n. n.name) ms) i.module_name ≡ true) m.imports) ms
   pub current : Each (λ m. Each (HasRow (map interface_in ms)) m.uses) ms
-  pub one_main : (m n : ModuleTree) → Among m ms → Among n ms → has_some m.main ≡ true → has_some n.main ≡ true → m ≡ n
+  pub one_main : (m n : ModuleTree) → Among m ms → Among n ms → is_some m.main ≡ true → is_some n.main ≡ true → m ≡ n
 
 formed_each : (ms : List ModuleTree) → Each IsWellFormed ms → AreWellFormed ms
 formed_each [] h = tt

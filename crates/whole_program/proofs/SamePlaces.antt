@@ -10,7 +10,9 @@ use Rattle.scheme_data.specs.Names.{are_distinct}
 use Rattle.name_table.specs.Names.{has_name}
 use Rattle.core_tree.specs.declared.tree.ImportItem.{ImportItem}
 use Rattle.core_tree.specs.Tree.{ModuleTree}
-use Rattle.meaning.specs.Order.{imported, numbers_of, onto_numbers, has_some, root_of, onto_chosen, chosen, IsOrder}
+use Rattle.std.specs.List.{cons_option}
+use Rattle.std.specs.Option.{is_some}
+use Rattle.meaning.specs.Order.{imported, numbers_of, root_of, chosen, IsOrder}
 use Rattle.whole_program.specs.Sources.{imports_in}
 use Rattle.whole_program.proofs.Members.{Among, any_of, among_at, among_map, each_at, one_named, one_place}
 use Rattle.whole_program.proofs.Places.{is_found, placed, imports_at, module_at}
@@ -30,17 +32,17 @@ record SamePlace (ms ns : List ModuleTree) (k j : ℕ) : Type 0 where
 record MainAt (ms : List ModuleTree) (root : ℕ) : Type 0 where
   module_tree : ModuleTree
   stands : slice_get ms root ≡ Some module_tree
-  has : has_some module_tree.main ≡ true
+  has : is_some module_tree.main ≡ true
 
 main_at : (ms : List ModuleTree) (root : ℕ) → root_of (map (λ m. m.main) ms) ≡ Some root → MainAt ms root
 main_at ms root e = go (slice_get ms root) refl (sym (slice_get-map (λ (m : ModuleTree). m.main) ms root) ∙ slice_get-get_or (map (λ m. m.main) ms) root None at.0)
   where
-    at : (root < length (map (λ m. m.main) ms)) × (has_some (get_or (map (λ m. m.main) ms) root None) ≡ true)
-    at = let all = position-Some has_some (map (λ m. m.main) ms) root None e in (all.0, all.1)
+    at : (root < length (map (λ m. m.main) ms)) × (is_some (get_or (map (λ m. m.main) ms) root None) ≡ true)
+    at = let all = position-Some is_some (map (λ m. m.main) ms) root None e in (all.0, all.1)
 
     go : (q : Option ModuleTree) → slice_get ms root ≡ q → option_map (λ (m : ModuleTree). m.main) q ≡ Some (get_or (map (λ m. m.main) ms) root None) → MainAt ms root
     go None is f = absurd (cc)
-    go (Some m) is f = record { module_tree = m; stands = is; has = ap has_some (same_Some m.main (get_or (map (λ n. n.main) ms) root None) f) ∙ at.1 }
+    go (Some m) is f = record { module_tree = m; stands = is; has = ap is_some (same_Some m.main (get_or (map (λ n. n.main) ms) root None) f) ∙ at.1 }
 
 -- Two orders --------------------------------------------------------------------------------
 
@@ -87,8 +89,8 @@ module _ (ms ns : List ModuleTree) (p : IsPermutation ms ns) (link : AreLinkable
   same_numbers (i ∷ is) h k =
       let a = placed (map (λ (m : ModuleTree). m.name) ms) i.module_name h.0 in
       let b = placed (map (λ (n : ModuleTree). n.name) ns) i.module_name k.0 in
-      subst (λ q. AllZip (SamePlace ms ns) (onto_numbers q (numbers_of (map (λ m. m.name) ms) is)) (numbers_of (map (λ n. n.name) ns) (i ∷ is))) (sym a.is)
-      (subst (λ q. AllZip (SamePlace ms ns) (a.place ∷ numbers_of (map (λ m. m.name) ms) is) (onto_numbers q (numbers_of (map (λ n. n.name) ns) is))) (sym b.is)
+      subst (λ q. AllZip (SamePlace ms ns) (cons_option q (numbers_of (map (λ m. m.name) ms) is)) (numbers_of (map (λ n. n.name) ns) (i ∷ is))) (sym a.is)
+      (subst (λ q. AllZip (SamePlace ms ns) (a.place ∷ numbers_of (map (λ m. m.name) ms) is) (cons_option q (numbers_of (map (λ n. n.name) ns) is))) (sym b.is)
       (same_named a.place b.place i.module_name a.stands b.stands, same_numbers is h.1 k.1))
 
   same_imports : (k j : ℕ) → SamePlace ms ns k j → AllZip (SamePlace ms ns) (imported (imports_in ms) k) (imported (imports_in ns) j)
@@ -115,10 +117,10 @@ module _ (ms ns : List ModuleTree) (p : IsPermutation ms ns) (link : AreLinkable
       among = among_too ms ns p at.module_tree (among_at ms root at.module_tree at.stands)
 
       root_too : ℕ
-      root_too = position_or_len has_some (map (λ n. n.main) ns)
+      root_too = position_or_len is_some (map (λ n. n.main) ns)
 
       is_root : root_of (map (λ n. n.main) ns) ≡ Some root_too
-      is_root = is_found has_some (map (λ n. n.main) ns) (any_of has_some (map (λ n. n.main) ns) at.module_tree.main (among_map (λ (n : ModuleTree). n.main) ns at.module_tree among) at.has)
+      is_root = is_found is_some (map (λ n. n.main) ns) (any_of is_some (map (λ n. n.main) ns) at.module_tree.main (among_map (λ (n : ModuleTree). n.main) ns at.module_tree among) at.has)
 
       at_too : MainAt ns root_too
       at_too = main_at ns root_too is_root
@@ -130,7 +132,7 @@ module _ (ms ns : List ModuleTree) (p : IsPermutation ms ns) (link : AreLinkable
   same_chosen [] [] z = refl
   same_chosen [] (j ∷ js) z = absurd z
   same_chosen (k ∷ ks) [] z = absurd z
-  same_chosen (k ∷ ks) (j ∷ js) z = ap₂ (λ (q : Option ModuleTree) (os : List ModuleTree). onto_chosen q os) (z.0.stands ∙ sym z.0.stands_too) (same_chosen ks js z.1)
+  same_chosen (k ∷ ks) (j ∷ js) z = ap₂ (λ (q : Option ModuleTree) (os : List ModuleTree). cons_option q os) (z.0.stands ∙ sym z.0.stands_too) (same_chosen ks js z.1)
 
 -- the modules that are reached from the one with a main function, in another order of all modules
 pub record SameProgram (ns program : List ModuleTree) : Type 0 where

@@ -1,5 +1,6 @@
 -- The law of separate compilation: what objects are linked to means what their sources mean together.
-use Rattle.std.specs.Prelude.{◌≡◌, ℕ, List, [], ◌∷◌, map}
+use Rattle.std.specs.Prelude.{◌≡◌, ℕ, List, map}
+use Rattle.std.specs.List.{AllZip}
 use Rattle.std.specs.List.Sorted.{IsPermutation}
 use Rattle.core_tree.specs.Tree.{ModuleTree}
 use Rattle.unit_compile.specs.Compilation.{IsModuleOf, Compiled}
@@ -13,18 +14,14 @@ pub record Compilation : Type 0 where
 
 -- the texts are the objects of these sources, each compiled with its interface texts
 abbrev pub AreCompiled : List Compilation → List (List ℕ) → Type 0
-AreCompiled [] [] = Unit {0}
-AreCompiled (c ∷ cs) (text ∷ texts) = Compiled c.source c.interfaces text × AreCompiled cs texts
-AreCompiled _ _ = ⊥
+AreCompiled cs texts = AllZip (λ c text. Compiled c.source c.interfaces text) cs texts
 
 abbrev pub sources_of : List Compilation → List (List ℕ)
 sources_of cs = map (λ c. c.source) cs
 
 -- modules of the sources, each under the interface texts with which it is compiled
 abbrev pub AreModulesAsCompiled : List Compilation → List ModuleTree → Type 0
-AreModulesAsCompiled [] [] = Unit {0}
-AreModulesAsCompiled (c ∷ cs) (m ∷ ms) = IsModuleOf c.source c.interfaces m × AreModulesAsCompiled cs ms
-AreModulesAsCompiled _ _ = ⊥
+AreModulesAsCompiled cs ms = AllZip (λ c m. IsModuleOf c.source c.interfaces m) cs ms
 
 -- each source is one module under the interface texts with which it was compiled, and the same one under the interfaces that the sources have now
 pub record HaveSameModules (compilations : List Compilation) : Type 0 where

@@ -1,5 +1,6 @@
 -- What sources mean together. Each is resolved with the interfaces of all of them, which are what they export now, whatever interface texts it was compiled with.
-use Rattle.std.specs.Prelude.{◌≡◌, ℕ, List, [], ◌∷◌, map, Some}
+use Rattle.std.specs.Prelude.{◌≡◌, ℕ, List, map, Some}
+use Rattle.std.specs.List.{AllZip}
 use Rattle.scheme_data.specs.Data.{plain_all}
 use Rattle.scheme_data.specs.declared.datum.Datum.{Datum}
 use Rattle.scheme_read.specs.Answers.{IsSource}
@@ -16,9 +17,7 @@ use Rattle.unit_compile.specs.Compilation.{IsInterfaceOf}
 
 -- each source has this interface
 abbrev pub AreInterfacesOf : List (List ℕ) → List IfaceTree → Type 0
-AreInterfacesOf [] [] = Unit {0}
-AreInterfacesOf (s ∷ ss) (i ∷ is) = IsInterfaceOf s i × AreInterfacesOf ss is
-AreInterfacesOf _ _ = ⊥
+AreInterfacesOf sources interfaces = AllZip IsInterfaceOf sources interfaces
 
 -- the source's data are those of this module, with these interfaces
 pub record IsModuleWith (interfaces : List IfaceTree) (source : List ℕ) (m : ModuleTree) : Type 0 where
@@ -27,9 +26,7 @@ pub record IsModuleWith (interfaces : List IfaceTree) (source : List ℕ) (m : M
   pub is : elaborated interfaces (plain_all forms) ≡ Some m
 
 abbrev pub AreModulesWith : List IfaceTree → List (List ℕ) → List ModuleTree → Type 0
-AreModulesWith interfaces [] [] = Unit {0}
-AreModulesWith interfaces (s ∷ ss) (m ∷ ms) = IsModuleWith interfaces s m × AreModulesWith interfaces ss ms
-AreModulesWith interfaces _ _ = ⊥
+AreModulesWith interfaces sources modules = AllZip (IsModuleWith interfaces) sources modules
 
 -- the modules of the sources, with the sources' own interfaces
 pub record AreModulesOf (sources : List (List ℕ)) (modules : List ModuleTree) : Type 0 where

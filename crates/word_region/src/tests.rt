@@ -51,14 +51,6 @@ fn blocks_after_a_mark_are_given_back(rt: HostRuntime) -> Result<(), OutOfMemory
 }
 
 #[test]
-fn a_reserved_block_is_not_refused(rt: HostRuntime) -> Result<(), OutOfMemory> {
-    let mut region = Region::new(rt.alloc());
-    region.reserve(4)?;
-    assert!(rt; region.alloc(3).is_ok());
-    Ok(())
-}
-
-#[test]
 fn a_block_runs_over_a_border(rt: HostRuntime) -> Result<(), OutOfMemory> {
     let mut region = Region::new(rt.alloc());
     let first = region.alloc(65_535)?;
@@ -73,26 +65,6 @@ fn a_block_runs_over_a_border(rt: HostRuntime) -> Result<(), OutOfMemory> {
     assert_eq!(rt; word_of_segment(&region, 0, 65_534), Some(3));
     assert_eq!(rt; word_of_segment(&region, 0, 65_535), Some(7));
     assert_eq!(rt; word_of_segment(&region, 1, 2), Some(9));
-    Ok(())
-}
-
-#[test]
-fn many_blocks_are_taken_again(rt: HostRuntime) -> Result<(), OutOfMemory> {
-    let mut region = Region::new(rt.alloc());
-    let mark = region.mark();
-    for _ in 0..200_000 {
-        region.alloc(1)?;
-    }
-    assert_eq!(rt; region.mark().0, 200_000);
-    if mark.0 <= region.mark().0 {
-        region.release(mark);
-    }
-    assert_eq!(rt; region.mark().0, 0);
-    assert_eq!(rt; region.size(Addr(0)), None);
-    for _ in 0..200_000 {
-        region.alloc(1)?;
-    }
-    assert_eq!(rt; region.mark().0, 200_000);
     Ok(())
 }
 

@@ -1,5 +1,6 @@
 use Rattle.std.proofs.Common.{◌*◌, ◌+◌, map}
 use Rattle.core_tree.specs.Tree.{tree, trees}
+use Rattle.code_gen.specs.Emission.{types_of}
 use Rattle.code_gen.specs.Settings.{setting}
 use Rattle.code_gen.proofs.Shapes.{weight, weights}
 use Rattle.code_gen.proofs.Values.{Arguing}
@@ -30,4 +31,4 @@ abbrev pub decreases-calls::arguments : goal.decreases-calls::arguments
 decreases-calls::arguments l = 5 * weights (trees (map tree l.nodes.now)) + 2
 
 abbrev pub invariant-calls::arguments-loop-i : goal.invariant-calls::arguments-loop-i
-invariant-calls::arguments-loop-i l = Arguing (setting l.ctx) l.fn.e l.e l.types l.nodes l.held l.i
+invariant-calls::arguments-loop-i l = Arguing (setting l.ctx) l.fn.e l.e (types_of l.wanted) l.nodes l.held l.i

@@ -1,5 +1,8 @@
-use Rattle.object_text.proofs.Rows.{no_row}
+use Rattle.object_text.proofs.Rows.{no_line_end, no_row}
 use Rattle.object_text.proofs.lines.read_row_line.Goals as goal
+
+pub returns-in_default-clause-none : goal.returns-in_default-clause-none
+returns-in_default-clause-none c = no_line_end c.args.bytes.now c.in_default.ensures.none
 
 pub returns-in_default-2-clause-none : goal.returns-in_default-2-clause-none
 returns-in_default-2-clause-none c =

@@ -1,4 +1,4 @@
-use Rattle.std.proofs.Common.{◌∙◌, map}
+use Rattle.std.proofs.Common.{◌∙◌, map, Ok, Err}
 use Rattle.std.proofs.lemmas.Result.{err_from_is_err_and}
 use Rattle.session.specs.Works.{reads_of}
 use Rattle.session.specs.Scripts.{held}
@@ -23,8 +23,15 @@ returns-in_err-effect-clause-told g c = λ s base agrees.
     let told = performed _ _ _ _ _ _ agrees.same.written_is (c.in_err-effect.ensures.told (map (held s) (reads_of c.args.command.now)) read.1 (all_stand s (reads_of c.args.command.now) agrees.kept)) in
     rw (p.1, p.2) (line_not_performed c.args.command.now s base _ _ _ _ (c.read_all.ensures.same ∙ agrees.same.files_are) read.0 told)
 
+pub returns-in_err-finish-clause-told : goal.returns-in_err-finish-clause-told
+returns-in_err-finish-clause-told g c = λ s base agrees.
+    let p = err_from_is_err_and c.from_residual-in_err-finish.result c.from_residual-in_err-finish.ensures.1 in
+    let read = read_done s _ _ (reads_of c.args.command.now) _ agrees.same.files_are (c.as_slice.ensures ∙ c.in_ok-names.ensures) c.in_ok-texts.ensures.told in
+    let told = performed _ _ _ _ _ _ agrees.same.written_is (c.in_ok-effect.ensures.told (map (held s) (reads_of c.args.command.now)) read.1 (all_stand s (reads_of c.args.command.now) agrees.kept)) in
+    rw (p.1, p.2) (line_finished c.law.ensures c.args.command.now s base _ _ _ _ _ _ (Err c.in_err-finish.field-0.0) (c.read_all.ensures.same ∙ agrees.same.files_are) agrees.kept agrees.ends_are read.0 told c.in_err-finish.ensures.told)
+
 pub returns-clause-told : goal.returns-clause-told
 returns-clause-told g c = λ s base agrees.
     let read = read_done s _ _ (reads_of c.args.command.now) _ agrees.same.files_are (c.as_slice.ensures ∙ c.in_ok-names.ensures) c.in_ok-texts.ensures.told in
     let told = performed _ _ _ _ _ _ agrees.same.written_is (c.in_ok-effect.ensures.told (map (held s) (reads_of c.args.command.now)) read.1 (all_stand s (reads_of c.args.command.now) agrees.kept)) in
-    line_finished c.law.ensures c.args.command.now s base _ _ _ _ _ _ _ (c.read_all.ensures.same ∙ agrees.same.files_are) agrees.kept agrees.ends_are read.0 told c.finish.ensures.told
+    line_finished c.law.ensures c.args.command.now s base _ _ _ _ _ _ (Ok tt) (c.read_all.ensures.same ∙ agrees.same.files_are) agrees.kept agrees.ends_are read.0 told c.in_ok-finish.ensures.told

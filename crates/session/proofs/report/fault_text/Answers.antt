@@ -1,10 +1,10 @@
 use Rattle.std.proofs.Common.{[], ◌∷◌, codes}
 use Rattle.scheme_data.specs.Decimal.{decimal_text}
 use Rattle.session.specs.Messages.{line_words}
-use Rattle.session.proofs.Putting.{five_pieces}
+use Rattle.session.proofs.Pieces.{five_pieces}
 use Rattle.session.proofs.report.fault_text.Goals as goal
 
 pub returns : goal.returns
 returns c =
     five_pieces (line_words c.args.number) (codes ": refusal 1 ") (decimal_text c.args.at.line) (58 ∷ []) (decimal_text c.args.at.column) _ _ _ _
-    c.in_ok-text.ensures c.in_ok-push_decimal.ensures c.in_ok-push.ensures.ok c.in_ok-push_decimal-2.ensures
+    c.in_ok-text.ensures c.in_ok-push_decimal.ensures.ok c.in_ok-push.ensures.ok c.in_ok-push_decimal-2.ensures.ok

@@ -2,7 +2,7 @@ use Rattle.std.proofs.Common.{◌∙◌, ap, ◌++◌, codes}
 use Rattle.scheme_data.specs.Decimal.{decimal_text}
 use Rattle.base_io.specs.Contents.{Bytes}
 use Rattle.session.specs.Messages.{line_words}
-use Rattle.session.proofs.Putting.{one_more_piece}
+use Rattle.session.proofs.Pieces.{one_more_piece}
 use Rattle.session.proofs.report.missing_name_text.Goals as goal
 
 pub returns : goal.returns

@@ -2,7 +2,7 @@ use Rattle.std.proofs.Common.{◌∙◌, refl, sym, ap, arith, map, Some, None, 
 use Rattle.commands.specs.Commands.{parsed}
 use Rattle.session.specs.declared.answer.Answer.TheVariants.{BadLine}
 use Rattle.session.specs.Scripts.{answer_of}
-use Rattle.session.proofs.Folding.{so_far_start, so_far_more, script_finished, script_bad, script_no_memory, script_halted, here_is, in_parsed, all_parsed, within, file_fault_of, write_fault_of, no_usage_of, no_read_fault_of, no_long_input_of, rose_since}
+use Rattle.session.proofs.Folding.{so_far_start, so_far_more, script_finished, script_bad, script_no_memory, script_halted, here_is, in_parsed, all_parsed, within, rose_since}
 use Rattle.session.proofs.script.do_lines.Goals as goal
 
 pub loop-line-init : goal.loop-line-init
@@ -24,7 +24,7 @@ returns-in-Ok-None-clause-told g c =
 pub returns-in-Err-do_line-clause-told : goal.returns-in-Err-do_line-clause-told
 returns-in-Err-do_line-clause-told g c =
     let place = here_is c.args.lines.now c.loop-line.line-index c.line-item.result c.as_bytes.result.now (Some c.in-Ok-Some.command) c.loop-line-test.true c.line-item.is c.as_bytes.ensures (rw c.in-Ok-Some.field-0-is at c.in-Ok-Some.ensures) in
-    script_halted (map parsed c.args.lines.now) _ _ c.loop-line.line-index _ _ c.loop-line.ends _ _ c.do_line.new.ends c.in-Ok-Some.command c.in-Err-do_line.halt _ (in_parsed c.args.lines.now c.loop-line.line-index c.loop-line-test.true) place (c.answer_for.ensures ∙ ap (λ (n : ℕ). answer_of c.in-Err-do_line.halt (n + 1)) c.loop-line.invariant.count) c.loop-line.invariant.told c.in-Err-do_line.ensures.told
+    script_halted (map parsed c.args.lines.now) _ _ c.loop-line.line-index _ _ c.loop-line.ends _ _ c.do_line.new.ends c.in-Ok-Some.command c.in-Err-do_line.halt _ (in_parsed c.args.lines.now c.loop-line.line-index c.loop-line-test.true) place (ap (λ (n : ℕ). answer_of c.in-Err-do_line.halt (n + 1)) c.loop-line.invariant.count) c.loop-line.invariant.told c.in-Err-do_line.ensures.told
 
 pub loop-line-preserved : goal.loop-line-preserved
 loop-line-preserved g c =
@@ -38,18 +38,3 @@ loop-line-preserved g c =
 
 pub returns-clause-told : goal.returns-clause-told
 returns-clause-told g c = script_finished (map parsed c.args.lines.now) _ _ c.loop-line.line-index _ _ c.loop-line.ends (all_parsed c.args.lines.now c.loop-line.line-index (omega (arith, c.loop-line.auto.line-index-end, c.loop-line-test.false))) c.loop-line.invariant.told
-
-pub returns-in-Err-do_line-clause-file_fault : goal.returns-in-Err-do_line-clause-file_fault
-returns-in-Err-do_line-clause-file_fault g c = λ n e. rose_since _ _ _ c.loop-line.invariant.files_later (c.in-Err-do_line.ensures.file_fault n (ap (λ h. Err h) (file_fault_of c.in-Err-do_line.halt _ n (sym c.answer_for.ensures ∙ e))))
-
-pub returns-in-Err-do_line-clause-write_fault : goal.returns-in-Err-do_line-clause-write_fault
-returns-in-Err-do_line-clause-write_fault g c = λ e. rose_since _ _ _ c.loop-line.invariant.out_later (c.in-Err-do_line.ensures.write_fault (ap (λ h. Err h) (write_fault_of c.in-Err-do_line.halt _ (sym c.answer_for.ensures ∙ e))))
-
-pub returns-in-Err-do_line-clause-no_usage : goal.returns-in-Err-do_line-clause-no_usage
-returns-in-Err-do_line-clause-no_usage g c = λ e. no_usage_of c.in-Err-do_line.halt _ (sym c.answer_for.ensures ∙ e)
-
-pub returns-in-Err-do_line-clause-no_read_fault : goal.returns-in-Err-do_line-clause-no_read_fault
-returns-in-Err-do_line-clause-no_read_fault g c = λ e. no_read_fault_of c.in-Err-do_line.halt _ (sym c.answer_for.ensures ∙ e)
-
-pub returns-in-Err-do_line-clause-no_long_input : goal.returns-in-Err-do_line-clause-no_long_input
-returns-in-Err-do_line-clause-no_long_input g c = λ e. no_long_input_of c.in-Err-do_line.halt _ (sym c.answer_for.ensures ∙ e)
