@@ -25,14 +25,14 @@ use Rattle.c_tree.specs.Operations.{wants_of, gives_of}
 use Rattle.c_meaning.specs.Word.{Word, Fixnum, False, True, Nil, Unspec, Eof, bits_of}
 use Rattle.c_meaning.specs.State.{Cell, AWord, ANumber, State, Frame, Answer, Has, Leaves, Stops, Ends, Faults}
 use Rattle.c_meaning.specs.Operations.{ACell, operate, print, fixnum_in, in_range, is_true, truth_word, truth_number}
-use Rattle.c_meaning.specs.Execution.{atom, arguments}
+use Rattle.c_meaning.specs.Execution.{Names, atom, arguments}
 use Rattle.c_meaning.specs.Checked.{argument_fits, arguments_fit, atom_fits, is_byte}
 use Rattle.c_machine.specs.declared.program.Action.{Action}
 use Rattle.c_machine.specs.Words.{long_of, fixnum_of, word_text, byte_of, status_of, truth_of, boxed_truth_of, less_of}
 use Rattle.c_machine.specs.Steps.{look, NeedsAction, Gave, Gives, Quits, performed, ranged, unboxed_of}
 use Rattle.c_machine.specs.Decoded.{operand_of, action_of, variable_names}
 use Rattle.c_machine.proofs.Numbers.{WordFits, long_back, fixnum_back, fixnum_tag, word_text_is, status_is, status_byte, fixnum_no_constant, when_true, when_false}
-use Rattle.c_machine.proofs.Typing.{Slot, Holds, atom_reading}
+use Rattle.c_machine.proofs.Typing.{Slot, Holds, Reading, atom_reading}
 
 -- an action gives what an answer has, or ends the run as the answer does
 abbrev pub Matches : CTy → State → Gave → Answer → Type 0
@@ -212,56 +212,78 @@ shown_same (ANumber z) s v h = absurd h.fits
 shown_same (AWord w) s v h = (record { fits = tt; is = refl }, ap (λ (t : List ℕ). print t s) (sym (ap word_text h.is ∙ word_text_is w h.fits)))
 
 module _ (vars : List CVar) (f : Frame) (below env : List ℕ) (s : State) (hs : Holds vars f env) where
+  abbrev base : ℕ
+  base = length below
+
+  abbrev slots : List ℕ
+  slots = below ++ env
+
+  abbrev names : Names
+  names = variable_names vars
+
+  abbrev cell : CAtom → Cell
+  cell a = atom names f a
+
+  abbrev value : CAtom → ℕ
+  value a = look base slots (operand_of names a)
+
+  record OneRead (t : CTy) (args : List CArg) : Type 0 where
+    first : CAtom
+    is : args ≡ arg.Atom first ∷ []
+    has : Reading t (cell first) base slots (operand_of names first)
+
+  record TwoRead (t u : CTy) (args : List CArg) : Type 0 where
+    first : CAtom
+    second : CAtom
+    is : args ≡ arg.Atom first ∷ arg.Atom second ∷ []
+    has : Reading t (cell first) base slots (operand_of names first)
+    has_too : Reading u (cell second) base slots (operand_of names second)
+
+  one_read : (t : CTy) (args : List CArg) → arguments_fit vars (AType t ∷ []) args ≡ true → OneRead t args
+  one_read t args h = let a = one_arg vars t args h in record { first = a.first; is = a.is; has = atom_reading vars f below env t a.first a.fits hs }
+
+  two_read : (t u : CTy) (args : List CArg) → arguments_fit vars (AType t ∷ AType u ∷ []) args ≡ true → TwoRead t u args
+  two_read t u args h =
+      let a = two_args vars t u args h in
+      record { first = a.first; second = a.second; is = a.is; has = atom_reading vars f below env t a.first a.fits hs; has_too = atom_reading vars f below env u a.second a.fits_too hs }
+
   abbrev Done : Op → List CArg → Type 0
-  Done op args = Operated (gives_of op) s (length below) (below ++ env) (action_of (variable_names vars) op args) (operate op (arguments (variable_names vars) f args) s)
+  Done op args = Operated (gives_of op) s base slots (action_of names op args) (operate op (arguments names f args) s)
+
+  operated_by : (p : Primitive) (args : List CArg) → arguments_fit vars (wants_of (Prim_op p)) args ≡ true → Done (Prim_op p) args
+  operated_by Add args h =
+      let a = two_read Long Long args h in
+      let d = added_same (cell a.first) (cell a.second) s (value a.first) (value a.second) a.has.slot a.has_too.slot in
+      subst (Done (Prim_op Add)) (sym a.is) (record { needs = ((a.has.reads, d.0), ((a.has_too.reads, d.1), tt)); same = d.2 })
+  operated_by Less args h =
+      let a = two_read Long Long args h in
+      let d = less_same (cell a.first) (cell a.second) s (value a.first) (value a.second) a.has.slot a.has_too.slot in
+      subst (Done (Prim_op Less)) (sym a.is) (record { needs = ((a.has.reads, d.0), ((a.has_too.reads, d.1), tt)); same = d.2 })
+  operated_by Display args h =
+      let a = one_read Obj args h in
+      subst (Done (Prim_op Display)) (sym a.is) (record { needs = (a.has.reads, tt); same = shown_same (cell a.first) s (value a.first) a.has.slot })
+  operated_by Newline args h = subst (Done (Prim_op Newline)) (sym (no_args vars args h)) (record { needs = tt; same = (record { fits = tt; is = refl }, refl) })
 
   pub operated : (op : Op) (args : List CArg) → arguments_fit vars (wants_of op) args ≡ true → Done op args
   operated BoxLong args h =
-      let a = one_arg vars Long args h in
-      let r = atom_reading vars f below env Long a.first a.fits hs in
-      let d = boxed_same (atom (variable_names vars) f a.first) s (look (length below) (below ++ env) (operand_of (variable_names vars) a.first)) r.slot in
-      subst (Done BoxLong) (sym a.is) (record { needs = (r.reads, d.0); same = d.1 })
+      let a = one_read Long args h in
+      let d = boxed_same (cell a.first) s (value a.first) a.has.slot in
+      subst (Done BoxLong) (sym a.is) (record { needs = (a.has.reads, d.0); same = d.1 })
   operated BoxBool args h =
-      let a = one_arg vars Int args h in
-      let r = atom_reading vars f below env Int a.first a.fits hs in
-      subst (Done BoxBool) (sym a.is) (record { needs = r.reads; same = boxed_truth_same (atom (variable_names vars) f a.first) s (look (length below) (below ++ env) (operand_of (variable_names vars) a.first)) r.slot })
+      let a = one_read Int args h in
+      subst (Done BoxBool) (sym a.is) (record { needs = a.has.reads; same = boxed_truth_same (cell a.first) s (value a.first) a.has.slot })
   operated UnboxLong args h =
-      let a = one_arg vars Obj args h in
-      let r = atom_reading vars f below env Obj a.first a.fits hs in
-      subst (Done UnboxLong) (sym a.is) (record { needs = r.reads; same = unboxed_same (atom (variable_names vars) f a.first) s (look (length below) (below ++ env) (operand_of (variable_names vars) a.first)) r.slot })
+      let a = one_read Obj args h in
+      subst (Done UnboxLong) (sym a.is) (record { needs = a.has.reads; same = unboxed_same (cell a.first) s (value a.first) a.has.slot })
   operated Truth args h =
-      let a = one_arg vars Obj args h in
-      let r = atom_reading vars f below env Obj a.first a.fits hs in
-      subst (Done Truth) (sym a.is) (record { needs = r.reads; same = truth_same (atom (variable_names vars) f a.first) s (look (length below) (below ++ env) (operand_of (variable_names vars) a.first)) r.slot })
+      let a = one_read Obj args h in
+      subst (Done Truth) (sym a.is) (record { needs = a.has.reads; same = truth_same (cell a.first) s (value a.first) a.has.slot })
   operated Raise args h =
       let a = raise_args vars args h in
       let code : byte_of (pos a.code) ≡ a.code = when_true (nat_lt a.code 256) a.code 0 (lt-ltb a.code 256 a.small) in
       subst (Done Raise) (sym a.is) (record { needs = tt; same = (ap (λ (n : ℕ). Raised n a.text) code, refl) })
   operated Args args h = subst (Done Args) (sym (no_args vars args h)) (record { needs = tt; same = (record { fits = tt; is = refl }, print_nothing s) })
   operated Status args h =
-      let a = one_arg vars Obj args h in
-      let r = atom_reading vars f below env Obj a.first a.fits hs in
-      subst (Done Status) (sym a.is) (record { needs = r.reads; same = status_same (atom (variable_names vars) f a.first) s (look (length below) (below ++ env) (operand_of (variable_names vars) a.first)) r.slot })
-  operated (Prim_op Add) args h =
-      let a = two_args vars Long Long args h in
-      let q = atom_reading vars f below env Long a.first a.fits hs in
-      let r = atom_reading vars f below env Long a.second a.fits_too hs in
-      let base = length below in
-      let slots = below ++ env in
-      let names = variable_names vars in
-      let d = added_same (atom names f a.first) (atom names f a.second) s (look base slots (operand_of names a.first)) (look base slots (operand_of names a.second)) q.slot r.slot in
-      subst (Done (Prim_op Add)) (sym a.is) (record { needs = ((q.reads, d.0), ((r.reads, d.1), tt)); same = d.2 })
-  operated (Prim_op Less) args h =
-      let a = two_args vars Long Long args h in
-      let q = atom_reading vars f below env Long a.first a.fits hs in
-      let r = atom_reading vars f below env Long a.second a.fits_too hs in
-      let base = length below in
-      let slots = below ++ env in
-      let names = variable_names vars in
-      let d = less_same (atom names f a.first) (atom names f a.second) s (look base slots (operand_of names a.first)) (look base slots (operand_of names a.second)) q.slot r.slot in
-      subst (Done (Prim_op Less)) (sym a.is) (record { needs = ((q.reads, d.0), ((r.reads, d.1), tt)); same = d.2 })
-  operated (Prim_op Display) args h =
-      let a = one_arg vars Obj args h in
-      let r = atom_reading vars f below env Obj a.first a.fits hs in
-      subst (Done (Prim_op Display)) (sym a.is) (record { needs = (r.reads, tt); same = shown_same (atom (variable_names vars) f a.first) s (look (length below) (below ++ env) (operand_of (variable_names vars) a.first)) r.slot })
-  operated (Prim_op Newline) args h = subst (Done (Prim_op Newline)) (sym (no_args vars args h)) (record { needs = tt; same = (record { fits = tt; is = refl }, refl) })
+      let a = one_read Obj args h in
+      subst (Done Status) (sym a.is) (record { needs = a.has.reads; same = status_same (cell a.first) s (value a.first) a.has.slot })
+  operated (Prim_op p) args h = operated_by p args h

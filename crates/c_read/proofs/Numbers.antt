@@ -3,9 +3,9 @@ use Rattle.std.proofs.Common.{◌≡◌, ℕ, zero, suc, ◌+◌, ◌-◌, ◌*�
 use Rattle.std.specs.Prelude.{ℤ, pos, negsuc, MatchOption}
 use Rattle.std.proofs.lemmas.Bool.{and_parts, and_from, ltb-true, ne_eqb}
 use Rattle.std.proofs.lemmas.Slice.Eq.{bytes_eq-Decides}
-use Rattle.scheme_data.specs.Decimal.{digits_onto, decimal_text, number_text}
+use Rattle.scheme_data.specs.Decimal.{digits_value, digits_onto, decimal_text, number_text}
 use Rattle.scheme_data.specs.Fixnum.{is_fixnum, IsFixnum}
-use Rattle.c_read.specs.Words.{digits_value, signed_value, if_spelled, number_of}
+use Rattle.c_read.specs.Words.{signed_value, if_spelled, number_of}
 use Rattle.scheme_data.specs.Names.{is_same}
 
 -- one more than the greatest number of so many digits

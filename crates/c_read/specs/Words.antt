@@ -1,7 +1,7 @@
 -- What a word is, by its text.
-use Rattle.std.specs.Prelude.{ℕ, List, [], ◌∷◌, ◌+◌, ◌-◌, ◌*◌, codes, nat_eq, Bool, ◌&&◌, if◌then◌else◌, Option, Some, None, ℤ, pos, negsuc}
+use Rattle.std.specs.Prelude.{ℕ, List, [], ◌∷◌, ◌-◌, codes, nat_eq, Bool, ◌&&◌, if◌then◌else◌, Option, Some, None, ℤ, pos, negsuc}
 use Rattle.std.specs.Option.{option_map}
-use Rattle.scheme_data.specs.Decimal.{number_text}
+use Rattle.scheme_data.specs.Decimal.{digits_value, number_text}
 use Rattle.scheme_data.specs.Names.{is_same}
 use Rattle.scheme_data.specs.Fixnum.{is_fixnum}
 use Rattle.c_tree.specs.declared.tree.CTy.{CTy}
@@ -19,11 +19,6 @@ type_of word =
     else (if is_same word (codes "long") then Some ty.Long
     else (if is_same word (codes "char") then Some ty.Char
     else (if is_same word (codes "int") then Some ty.Int else None)))
-
--- the number of digits after some
-abbrev pub digits_value : ℕ → List ℕ → ℕ
-digits_value n [] = n
-digits_value n (d ∷ ds) = digits_value (10 * n + (d - 48)) ds
 
 abbrev pub signed_value : List ℕ → ℤ
 signed_value [] = pos 0

@@ -5,11 +5,11 @@ use Rattle.std.specs.List.{list_all}
 use Rattle.std.proofs.lemmas.Bool.Decides.{nat_tests}
 use Rattle.std.proofs.lemmas.Bool.{and_from}
 use Rattle.std.proofs.lemmas.List.{append-nil}
-use Rattle.scheme_data.specs.Decimal.{decimal_text}
+use Rattle.scheme_data.specs.Decimal.{is_digit, decimal_text}
 use Rattle.scheme_data.proofs.NumberTexts.{IsNumeralText, decimal_text-IsNumeralText, decimal_text_injective}
 use Rattle.c_tree.specs.declared.names.NameState.{NameState}
 use Rattle.c_tree.specs.declared.names.NameState.TheVariants.{First, FirstEscape, InModule, ModuleEscape, ModuleHex, Second, InName, NameEscape, NameHex}
-use Rattle.c_tree.specs.Names.{is_digit, is_alphanumeric, is_hex, hex_digit, mangled_byte, mangled, function_name, maker_name, initializer_name, after_byte, after_bytes, is_function_name, is_main, is_numeral, is_local_name, is_label_name, local_name, label_name}
+use Rattle.c_tree.specs.Names.{is_alphanumeric, is_hex, hex_digit, mangled_byte, mangled, function_name, maker_name, initializer_name, after_byte, after_bytes, is_function_name, is_main, is_numeral, is_local_name, is_label_name, local_name, label_name}
 
 -- Functions ---------------------------------------------------------------------------------
 

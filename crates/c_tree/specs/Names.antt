@@ -2,12 +2,9 @@
 use Rattle.std.specs.Prelude.{ℕ, ◌+◌, ◌/◌, ◌%◌, List, [], ◌∷◌, ◌++◌, codes, nat_le, nat_lt, nat_eq, Bool, true, false, ◌&&◌, ◌||◌, if◌then◌else◌}
 use Rattle.std.specs.List.{list_all, flat_map}
 use Rattle.std.specs.Cmp.Lexicographic.{pointwise}
-use Rattle.scheme_data.specs.Decimal.{decimal_text}
+use Rattle.scheme_data.specs.Decimal.{is_digit, decimal_text}
 use Rattle.c_tree.specs.declared.names.NameState.{NameState}
 use Rattle.c_tree.specs.declared.names.NameState.TheVariants.{First, FirstEscape, InModule, ModuleEscape, ModuleHex, Second, InName, NameEscape, NameHex, Wrong}
-
-abbrev pub is_digit : ℕ → Bool
-is_digit b = nat_le 48 b && nat_le b 57
 
 abbrev pub is_letter : ℕ → Bool
 is_letter b = (nat_le 65 b && nat_le b 90) || (nat_le 97 b && nat_le b 122)

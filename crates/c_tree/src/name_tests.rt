@@ -1,27 +1,23 @@
 // Which words are names, in one walk over their bytes.
 ghost use Rattle.std.specs.Prelude.{◌≡◌, nat_eq, if◌then◌else◌};
 ghost use Rattle.std.specs.List.{list_all};
-ghost use Rattle.c_tree.specs.Names.{is_digit, is_alphanumeric, is_hex, is_numeral, is_main, is_maker, is_initializer, is_of_module, is_module_end, is_module_function, is_function_name, is_local_name, is_label_name, after_byte, after_bytes, is_end};
+ghost use Rattle.scheme_data.specs.Decimal.{is_digit};
+ghost use Rattle.c_tree.specs.Names.{is_alphanumeric, is_hex, is_numeral, is_main, is_maker, is_initializer, is_of_module, is_module_end, is_module_function, is_function_name, is_local_name, is_label_name, after_byte, after_bytes, is_end};
 ghost use Rattle.c_tree.specs.declared.names.NameState.TheVariants.{ModuleEscape, Wrong};
 
 use crate::names::NameState;
-
-fn tells_digit(byte: u8) -> bool
-    ensures { result ≡ is_digit byte }
-{
-    b'0' <= byte && byte <= b'9'
-}
+use scheme_data::is_digit;
 
 pub fn tells_alphanumeric(byte: u8) -> bool
     ensures { result ≡ is_alphanumeric byte }
 {
-    tells_digit(byte) || b'A' <= byte && byte <= b'Z' || b'a' <= byte && byte <= b'z'
+    is_digit(byte) || b'A' <= byte && byte <= b'Z' || b'a' <= byte && byte <= b'z'
 }
 
 fn tells_hex(byte: u8) -> bool
     ensures { result ≡ is_hex byte }
 {
-    tells_digit(byte) || b'a' <= byte && byte <= b'f'
+    is_digit(byte) || b'a' <= byte && byte <= b'f'
 }
 
 // The state after a byte of a mangled text where none is being escaped.
@@ -145,7 +141,7 @@ pub fn names_function(word: &[u8]) -> bool
 fn all_digits(bytes: &[u8]) -> bool
     ensures { result ≡ list_all is_digit bytes.now }
 {
-    bytes.iter().all(|byte| tells_digit(*byte))
+    bytes.iter().all(|byte| is_digit(*byte))
 }
 
 fn names_numeral(bytes: &[u8]) -> bool
@@ -155,7 +151,7 @@ fn names_numeral(bytes: &[u8]) -> bool
         return false;
     }
     if bytes.len() == 1 {
-        return tells_digit(bytes[0]);
+        return is_digit(bytes[0]);
     }
     b'0' < bytes[0] && bytes[0] <= b'9' && all_digits(&bytes[1..])
 }

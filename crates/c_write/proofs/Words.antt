@@ -5,13 +5,13 @@ use Rattle.std.specs.List.{list_all}
 use Rattle.std.specs.Cmp.Lexicographic.{same_text}
 use Rattle.std.proofs.lemmas.Bool.{and_parts, and_from}
 use Rattle.std.proofs.lemmas.Bool.Decides.{nat_tests}
-use Rattle.scheme_data.specs.Decimal.{number_text}
+use Rattle.scheme_data.specs.Decimal.{is_digit, number_text}
 use Rattle.scheme_data.specs.Fixnum.{IsFixnum}
 use Rattle.scheme_data.proofs.NumberTexts.{IsNumeralText, IsSignedText, number_text-IsSignedText, mag_fixnum}
 use Rattle.c_tree.specs.declared.op.Op.{Op}
 use Rattle.c_tree.specs.declared.names.NameState.{NameState}
 use Rattle.c_tree.specs.declared.names.NameState.TheVariants.{First, FirstEscape, InModule, ModuleEscape, ModuleHex, Second, InName, NameEscape, NameHex, Wrong}
-use Rattle.c_tree.specs.Names.{is_digit, is_alphanumeric, is_hex, after_byte, after_bytes, is_end, is_module_end, is_of_module, is_module_function, is_maker, is_initializer, is_function_name, is_main, is_numeral, is_local_name, is_label_name}
+use Rattle.c_tree.specs.Names.{is_alphanumeric, is_hex, after_byte, after_bytes, is_end, is_module_end, is_of_module, is_module_function, is_maker, is_initializer, is_function_name, is_main, is_numeral, is_local_name, is_label_name}
 use Rattle.c_tree.specs.Operations.{op_text}
 use Rattle.c_tree.specs.Lexical.{is_word_byte}
 use Rattle.c_tree.proofs.OpNames.{every_operation}
