@@ -1,5 +1,5 @@
 -- Values that are needed at the same time stand in different locals.
-use Rattle.std.proofs.Common.{◌≡◌, List, [], ◌∷◌, sym, ap, ◌∙◌, inl}
+use Rattle.std.proofs.Common.{◌≡◌, List, [], ◌∷◌, sym, ◌∙◌, inl}
 use Rattle.built_table.specs.declared.primitives.Ty.{Ty}
 use Rattle.core_tree.specs.Tree.{Tree, none, more, ModuleTree}
 use Rattle.c_tree.specs.declared.tree.CVar.{CVar}

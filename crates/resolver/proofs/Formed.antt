@@ -7,7 +7,6 @@ use Rattle.iface_text.specs.Format.{IfaceTree, HasSpelling}
 use Rattle.core_tree.specs.declared.tree.Use.{Use}
 use Rattle.core_tree.specs.Tree.{ModuleTree}
 use Rattle.core_tree.specs.WellFormed.{AreFunctions, IsMain, IsWellFormed}
-use Rattle.core_tree.specs.WellFormed as formed
 use Rattle.resolver.specs.Drafts.{count, expressions, Definition, functions, top_scope, function_names, has_main, Draft, draft, interface_of, exported, exported_rows}
 use Rattle.resolver.specs.Elaboration.{AreSpelled, uses, import_item, module_with, completed, elaborated}
 use Rattle.resolver.proofs.FormedParts.{Holds, at_value}

@@ -1,7 +1,5 @@
 -- Nodes, one layer at a time.
 use Rattle.std.proofs.Common.{◌≡◌, List, map, rules}
-use Rattle.scheme_data.specs.declared.datum.Datum as data_of
-use Rattle.scheme_data.specs.declared.datum.Datum.TheVariants as datum
 use Rattle.core_tree.specs.declared.tree.Node.{Node}
 use Rattle.core_tree.specs.declared.tree.Node as node_of
 use Rattle.core_tree.specs.declared.tree.Node.TheVariants as node

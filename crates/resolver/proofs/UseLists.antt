@@ -1,5 +1,5 @@
 -- How lists of uses grow.
-use Rattle.std.proofs.Common.{◌≡◌, ℕ, ◌+◌, ◌<◌, ◌≤◌, Bool, true, false, not, ◌&&◌, ◌||◌, cond, List, [], ◌∷◌, ◌++◌, length, get_or, map, find, drop, take, slice_get, Option, None, Some, nat_eq, refl, sym, ap, ◌∙◌, true≢false, if◌then◌else◌, append_assoc, drop-cons, add-one}
+use Rattle.std.proofs.Common.{◌≡◌, ℕ, ◌+◌, ◌<◌, ◌≤◌, Bool, true, false, not, ◌&&◌, ◌||◌, cond, List, [], ◌∷◌, ◌++◌, length, get_or, map, find, drop, take, slice_get, Option, None, Some, nat_eq, refl, sym, ap, ◌∙◌, if◌then◌else◌, append_assoc, drop-cons, add-one}
 use Rattle.std.specs.Borrow.{Bor}
 use Rattle.std.specs.Cmp.Lexicographic.{pointwise, slice_cmp, nat_list_eq_equiv, texts_ties}
 use Rattle.std.specs.Cmp.{both_tied}

@@ -1,5 +1,5 @@
 -- The interface and the module of a source, and the object that it is compiled to.
-use Rattle.std.specs.Prelude.{◌≡◌, ℕ, List, [], ◌∷◌, Some, Result, Ok, Err}
+use Rattle.std.specs.Prelude.{◌≡◌, ℕ, List, Some, Result, Ok, Err}
 use Rattle.std.specs.List.{AllZip}
 use Rattle.scheme_data.specs.Data.{plain_all}
 use Rattle.scheme_data.specs.declared.datum.Datum.{Datum}

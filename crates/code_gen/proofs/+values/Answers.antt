@@ -1,10 +1,9 @@
-use Rattle.std.proofs.Common.{◌≡◌, sym, ◌∙◌, subst, ap, map, length, arith, List, Some, None}
+use Rattle.std.proofs.Common.{sym, ◌∙◌, subst, ap, map, length, arith, List, Some, None}
 use Rattle.std.proofs.lemmas.Result.{IfOk-weaker, on_ok_weaker}
 use Rattle.core_tree.specs.declared.tree.Node.{Node}
 use Rattle.core_tree.specs.Tree.{Tree, trees, tree}
 use Rattle.core_tree.specs.WellFormed.{AsMany}
 use Rattle.plan_rules.specs.Representation.{rep_of}
-use Rattle.plan_rules.specs.Translation.{objects}
 use Rattle.code_gen.specs.Callees.{callee_in}
 use Rattle.code_gen.specs.Settings.{setting}
 use Rattle.code_gen.specs.declared.emitter.Target.TheVariants.{Into}
