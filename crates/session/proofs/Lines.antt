@@ -14,7 +14,7 @@ use Rattle.commands.specs.declared.command.Command.TheVariants.{Blank, Iface, Co
 use Rattle.session.specs.declared.answer.Effect.{Effect}
 use Rattle.session.specs.declared.answer.Effect.TheVariants.{Nothing, Wrote, Ran}
 use Rattle.session.specs.declared.errors.Halt.{Halt}
-use Rattle.session.specs.declared.errors.Halt.TheVariants.{Memory}
+use Rattle.session.specs.declared.errors.Halt.TheVariants.{FileFault, WriteFault, Memory}
 use Rattle.session.specs.declared.errors.ReadErr.{ReadErr}
 use Rattle.session.specs.declared.errors.ReadErr.TheVariants as read
 use Rattle.session.specs.declared.errors.WorkErr.{WorkErr}
@@ -255,3 +255,54 @@ files_told s contents names e files told = subst (λ (x : Option Contents). Read
 
 pub performed : (c : Command) (hs : List Held) (old new : Option Bytes) (bytes : Bytes) (r : Result Effect WorkErr) → old ≡ Some bytes → Performs c hs old new r → Performs c hs (Some bytes) new r
 performed c hs old new bytes r is told = subst (λ (x : Option Bytes). Performs c hs x new r) is told
+
+-- The causes of a line's end ----------------------------------------------------------------
+
+same_halt : (r : Result (Unit {0}) Halt) (x y : Halt) → r ≡ Err x → r ≡ Err y → x ≡ y
+same_halt r x y this that = cc
+
+file_fault_of_read : (e : ReadErr) (n : Bytes) → halt_of_read e ≡ FileFault n → e ≡ read.FileFault n
+file_fault_of_read (read.NoFile m) n is = absurd (cc)
+file_fault_of_read (read.FileFault m) n is = let same : m ≡ n = cc in ap (λ (x : Bytes). read.FileFault x) same
+file_fault_of_read read.Memory n is = absurd (cc)
+
+pub read_file_fault : (r : Result (Unit {0}) Halt) (h : Halt) (e : ReadErr) (n : Bytes) → r ≡ Err h → h ≡ halt_of_read e → r ≡ Err (FileFault n) → e ≡ read.FileFault n
+read_file_fault r h e n r_is h_is is = file_fault_of_read e n (sym h_is ∙ same_halt r h (FileFault n) r_is is)
+
+no_write_fault_of_read : (e : ReadErr) → halt_of_read e ≡ WriteFault → ⊥
+no_write_fault_of_read (read.NoFile m) is = cc
+no_write_fault_of_read (read.FileFault m) is = cc
+no_write_fault_of_read read.Memory is = cc
+
+pub no_read_write_fault : (r : Result (Unit {0}) Halt) (h : Halt) (e : ReadErr) → r ≡ Err h → h ≡ halt_of_read e → r ≡ Err WriteFault → ⊥
+no_read_write_fault r h e r_is h_is is = no_write_fault_of_read e (sym h_is ∙ same_halt r h WriteFault r_is is)
+
+write_fault_of_work : (e : WorkErr) → halt_of_work e ≡ WriteFault → e ≡ work.WriteFault
+write_fault_of_work (work.Refused r) is = absurd (cc)
+write_fault_of_work work.WriteFault is = refl
+write_fault_of_work work.Memory is = absurd (cc)
+
+pub work_write_fault : (r : Result (Unit {0}) Halt) (h : Halt) (e : WorkErr) → r ≡ Err h → h ≡ halt_of_work e → r ≡ Err WriteFault → e ≡ work.WriteFault
+work_write_fault r h e r_is h_is is = write_fault_of_work e (sym h_is ∙ same_halt r h WriteFault r_is is)
+
+no_file_fault_of_work : (e : WorkErr) (n : Bytes) → halt_of_work e ≡ FileFault n → ⊥
+no_file_fault_of_work (work.Refused r) n is = cc
+no_file_fault_of_work work.WriteFault n is = cc
+no_file_fault_of_work work.Memory n is = cc
+
+pub no_work_file_fault : (r : Result (Unit {0}) Halt) (h : Halt) (e : WorkErr) (n : Bytes) → r ≡ Err h → h ≡ halt_of_work e → r ≡ Err (FileFault n) → ⊥
+no_work_file_fault r h e n r_is h_is is = no_file_fault_of_work e n (sym h_is ∙ same_halt r h (FileFault n) r_is is)
+
+file_fault_of_write : (e : WriteErr) (n : Bytes) → halt_of_write e ≡ FileFault n → e ≡ write.FileFault n
+file_fault_of_write (write.FileFault m) n is = let same : m ≡ n = cc in ap (λ (x : Bytes). write.FileFault x) same
+file_fault_of_write write.Memory n is = absurd (cc)
+
+pub write_file_fault : (r : Result (Unit {0}) Halt) (h : Halt) (e : WriteErr) (n : Bytes) → r ≡ Err h → h ≡ halt_of_write e → r ≡ Err (FileFault n) → e ≡ write.FileFault n
+write_file_fault r h e n r_is h_is is = file_fault_of_write e n (sym h_is ∙ same_halt r h (FileFault n) r_is is)
+
+no_write_fault_of_write : (e : WriteErr) → halt_of_write e ≡ WriteFault → ⊥
+no_write_fault_of_write (write.FileFault m) is = cc
+no_write_fault_of_write write.Memory is = cc
+
+pub no_write_write_fault : (r : Result (Unit {0}) Halt) (h : Halt) (e : WriteErr) → r ≡ Err h → h ≡ halt_of_write e → r ≡ Err WriteFault → ⊥
+no_write_write_fault r h e r_is h_is is = no_write_fault_of_write e (sym h_is ∙ same_halt r h WriteFault r_is is)

@@ -10,18 +10,28 @@ use std::alloc::Global;
 
 // The statuses where not every line was done.
 const USAGE: u8 = 240;
+
 const BAD_LINE: u8 = 241;
+
 const NO_FILE: u8 = 242;
+
 const FILE_FAULT: u8 = 243;
+
 const READ_FAULT: u8 = 244;
+
 const INPUT_LONG: u8 = 245;
+
 const WRITE_FAULT: u8 = 246;
+
 const REFUSED: u8 = 247;
+
 const NO_MEMORY: u8 = 248;
 
 // Those of runs that didn't end with a status of their own.
 const RAISED: u8 = 250;
+
 const SPENT: u8 = 251;
+
 const RUN_FAULT: u8 = 252;
 
 fn status_of_end(end: &End) -> u8

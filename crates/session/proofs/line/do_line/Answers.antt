@@ -1,8 +1,9 @@
-use Rattle.std.proofs.Common.{◌∙◌, map, Ok, Err}
+use Rattle.std.proofs.Common.{◌∙◌, ap, map, Ok, Err}
 use Rattle.std.proofs.lemmas.Result.{err_from_is_err_and}
 use Rattle.session.specs.Works.{reads_of}
 use Rattle.session.specs.Scripts.{held}
-use Rattle.session.proofs.Lines.{line_no_memory, line_no_files, line_not_performed, line_finished, read_done, files_told, performed, all_stand}
+use Rattle.session.proofs.Lines.{line_no_memory, line_no_files, line_not_performed, line_finished, read_done, files_told, performed, all_stand, read_file_fault, no_read_write_fault, work_write_fault, no_work_file_fault, write_file_fault, no_write_write_fault}
+use Rattle.session.proofs.Folding.{rose_since}
 use Rattle.session.proofs.line.do_line.Goals as goal
 
 pub returns-in_err-names-clause-told : goal.returns-in_err-names-clause-told
@@ -35,3 +36,33 @@ returns-clause-told g c = λ s base agrees.
     let read = read_done s _ _ (reads_of c.args.command.now) _ agrees.same.files_are (c.as_slice.ensures ∙ c.in_ok-names.ensures) c.in_ok-texts.ensures.told in
     let told = performed _ _ _ _ _ _ agrees.same.written_is (c.in_ok-effect.ensures.told (map (held s) (reads_of c.args.command.now)) read.1 (all_stand s (reads_of c.args.command.now) agrees.kept)) in
     line_finished c.law.ensures c.args.command.now s base _ _ _ _ _ _ (Ok tt) (c.read_all.ensures.same ∙ agrees.same.files_are) agrees.kept agrees.ends_are read.0 told c.in_ok-finish.ensures.told
+
+pub returns-in_err-texts-clause-file_fault : goal.returns-in_err-texts-clause-file_fault
+returns-in_err-texts-clause-file_fault g c = λ n is.
+    let p = err_from_is_err_and c.from_residual-in_err-texts.result c.from_residual-in_err-texts.ensures.1 in
+    c.in_err-texts.ensures.fault n (ap (λ e. Err e) (read_file_fault _ _ _ n p.1 p.2 is))
+
+pub returns-in_err-texts-clause-write_fault : goal.returns-in_err-texts-clause-write_fault
+returns-in_err-texts-clause-write_fault g c = λ is.
+    let p = err_from_is_err_and c.from_residual-in_err-texts.result c.from_residual-in_err-texts.ensures.1 in
+    absurd (no_read_write_fault _ _ _ p.1 p.2 is)
+
+pub returns-in_err-effect-clause-file_fault : goal.returns-in_err-effect-clause-file_fault
+returns-in_err-effect-clause-file_fault g c = λ n is.
+    let p = err_from_is_err_and c.from_residual-in_err-effect.result c.from_residual-in_err-effect.ensures.1 in
+    absurd (no_work_file_fault _ _ _ n p.1 p.2 is)
+
+pub returns-in_err-effect-clause-write_fault : goal.returns-in_err-effect-clause-write_fault
+returns-in_err-effect-clause-write_fault g c = λ is.
+    let p = err_from_is_err_and c.from_residual-in_err-effect.result c.from_residual-in_err-effect.ensures.1 in
+    c.in_err-effect.ensures.fault (ap (λ e. Err e) (work_write_fault _ _ _ p.1 p.2 is))
+
+pub returns-in_err-finish-clause-write_fault : goal.returns-in_err-finish-clause-write_fault
+returns-in_err-finish-clause-write_fault g c = λ is.
+    let p = err_from_is_err_and c.from_residual-in_err-finish.result c.from_residual-in_err-finish.ensures.1 in
+    absurd (no_write_write_fault _ _ _ p.1 p.2 is)
+
+pub returns-in_err-finish-clause-file_fault : goal.returns-in_err-finish-clause-file_fault
+returns-in_err-finish-clause-file_fault g c = λ n is.
+    let p = err_from_is_err_and c.from_residual-in_err-finish.result c.from_residual-in_err-finish.ensures.1 in
+    rose_since _ _ _ c.in_ok-texts.ensures.later (c.in_err-finish.ensures.fault n (ap (λ e. Err e) (write_file_fault _ _ _ n p.1 p.2 is)))
