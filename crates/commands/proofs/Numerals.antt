@@ -1,6 +1,6 @@
 -- What std's parser reads of 1 to 19 digits.
 use Rattle.std.proofs.Common.{◌≡◌, ℕ, ◌<◌, ◌≤◌, ◌^◌, List, length, Result, Ok, Err, arith, rules, ap}
-use Rattle.std.specs.Prelude.{Bool, true, ◌&&◌, nat_le}
+use Rattle.std.specs.Prelude.{true, ◌&&◌, nat_le}
 use Rattle.std.specs.List.{list_all}
 use Rattle.std.specs.Str.{IsUtf8}
 use Rattle.std.specs.Str.Parse.{digits_value, ParsesUnsigned}

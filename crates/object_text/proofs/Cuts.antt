@@ -1,12 +1,11 @@
 -- A list is cut in one way behind a front, and behind the longest run of elements that pass a test.
-use Rattle.std.proofs.Common.{◌≡◌, ℕ, ◌+◌, ◌≤◌, ◌<◌, List, [], ◌∷◌, ◌++◌, length, take, drop, Bool, true, false, cond, IsTrue, ◌&&◌, refl, ap, sym, ◌∙◌, arith, one-add, subst, take-append-drop, None, nat_eq}
+use Rattle.std.proofs.Common.{◌≡◌, ℕ, ◌+◌, List, [], ◌∷◌, ◌++◌, length, take, drop, Bool, true, false, cond, IsTrue, ◌&&◌, refl, ap, sym, ◌∙◌, arith, one-add, subst, take-append-drop, None, nat_eq}
 use Rattle.std.specs.List.{list_all, prefix_len}
 use Rattle.std.specs.Cmp.Lexicographic.{pointwise}
 use Rattle.std.proofs.lemmas.Bool.Decides.{Decides-eqb}
 use Rattle.std.proofs.lemmas.Slice.Eq.{strip_prefix_is}
 use Rattle.std.proofs.Math.Seq.{take-append_seam}
 use Rattle.std.proofs.lemmas.List.{append_cancel_left}
-use Rattle.std.proofs.lemmas.List.Folds.{length-prefix_len}
 use Rattle.scheme_data.specs.Symbols.{is_symbol_byte, has_symbol_form}
 use Rattle.scheme_data.proofs.SymbolTests.{symbol_of_form, has_form}
 use Rattle.object_text.specs.Header.{IsNamed, NotNamed, Stops}

@@ -1,6 +1,5 @@
 -- What begins with `#`: vectors, block comments, characters and constants.
-use Rattle.std.specs.Prelude.{ℕ, ◌+◌, List, [], ◌∷◌, codes, nat_eq, Bool, true, false, if◌then◌else◌, Option, Some, None}
-use Rattle.std.specs.Cmp.Lexicographic.{pointwise}
+use Rattle.std.specs.Prelude.{ℕ, ◌+◌, List, [], ◌∷◌, codes, nat_eq, true, false, if◌then◌else◌, Option, Some, None}
 use Rattle.std.specs.List.{prefix_len, take_while}
 use Rattle.scheme_data.specs.Symbols.{is_symbol_byte}
 use Rattle.scheme_data.specs.Names.{is_same}

@@ -1,5 +1,5 @@
 -- What a run of symbol bytes is: a fixnum, a dot, a symbol, or none of these.
-use Rattle.std.specs.Prelude.{ℕ, zero, suc, ◌+◌, ◌-◌, ◌*◌, ℤ, pos, negsuc, List, [], ◌∷◌, nat_eq, Bool, false, ◌&&◌, ◌||◌, if◌then◌else◌, Option, Some, None}
+use Rattle.std.specs.Prelude.{ℕ, zero, suc, ℤ, pos, negsuc, List, [], ◌∷◌, nat_eq, Bool, false, ◌&&◌, ◌||◌, if◌then◌else◌, Option, Some, None}
 use Rattle.std.specs.List.{list_all}
 use Rattle.scheme_data.specs.Decimal.{is_digit, digits_value}
 use Rattle.scheme_data.specs.Fixnum.{is_fixnum}

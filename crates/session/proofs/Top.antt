@@ -1,22 +1,16 @@
 -- The top call.
-use Rattle.std.proofs.Common.{◌≡◌, ◌≤◌, ◌<◌, List, [], ◌∷◌, map, length, Option, Some, Result, Ok, Err, refl, ap, sym, ◌∙◌, subst}
+use Rattle.std.proofs.Common.{◌≡◌, ◌≤◌, ◌<◌, List, [], ◌∷◌, map, length, Option, Some, Result, Ok, refl, ap, sym, ◌∙◌, subst}
 use Rattle.scheme_data.specs.declared.datum.LimitKind.TheVariants.{Bytes as TheBytes}
 use Rattle.base_io.specs.Contents.{Bytes, Contents}
 use Rattle.commands.specs.Commands.{parsed, parts_of, script_of, request_of}
 use Rattle.commands.specs.declared.command.Command.{Command}
 use Rattle.commands.specs.declared.command.Request.TheVariants.{Line, Do}
-use Rattle.base_io.specs.declared.end.End.{End}
 use Rattle.session.specs.declared.errors.ReadErr.{ReadErr}
-use Rattle.session.specs.declared.errors.ReadErr.TheVariants.{NoFile, FileFault, Memory}
-use Rattle.session.specs.declared.errors.Halt.TheVariants as halt
-use Rattle.session.specs.declared.errors.Stop.{Stop}
-use Rattle.session.specs.declared.errors.Stop.TheVariants.{Halted}
-use Rattle.session.specs.Halts.{stop_of_read}
 use Rattle.session.specs.declared.answer.Answer.{Answer}
 use Rattle.session.specs.declared.answer.Answer.TheVariants as answer
 use Rattle.session.specs.declared.answer.Refusal.TheVariants.{Limit}
 use Rattle.session.specs.Outside.{ReadOne}
-use Rattle.session.specs.Scripts.{ScriptDid, Untouched, NamedDid, ProgramDid, one_line, named, no_script, long_script, script, script_fault, script_memory, longest, answer_of_stop, answer_of_lines}
+use Rattle.session.specs.Scripts.{ScriptDid, NamedDid, ProgramDid, one_line, named, long_script, script, longest}
 
 abbrev pub NamedTold : Bytes → Option Contents → Option Bytes → Answer → Option Contents → Option Bytes → Type 0
 NamedTold name contents written a contents' written' =

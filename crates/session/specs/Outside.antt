@@ -1,5 +1,5 @@
 -- What one step on a handed-in object does, where it tells what it holds.
-use Rattle.std.specs.Prelude.{◌≡◌, List, [], ◌++◌, map, unwrap_or, find, is_none, Option, Some, None, Result, Ok, Err, Contains}
+use Rattle.std.specs.Prelude.{◌≡◌, List, [], map, unwrap_or, find, is_none, Option, Some, None, Result, Ok, Err, Contains}
 use Rattle.std.specs.FinMap.{get, insert}
 use Rattle.base_io.specs.Contents.{Bytes, Contents, KeepsOthers}
 use Rattle.session.specs.declared.errors.ReadErr.{ReadErr}

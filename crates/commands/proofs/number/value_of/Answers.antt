@@ -1,4 +1,4 @@
-use Rattle.std.proofs.Common.{◌∙◌, subst, List, ℕ, sym}
+use Rattle.std.proofs.Common.{subst, List, ℕ}
 use Rattle.std.specs.Str.Parse.{ParsesUnsigned}
 use Rattle.commands.proofs.Numerals.{numeral_is_text, numeral_is_read}
 use Rattle.commands.proofs.number.value_of.Goals as goal

@@ -1,8 +1,8 @@
-use Rattle.std.proofs.Common.{◌∙◌, refl, sym, ap, arith, map, Some, None, ℕ, ◌+◌, Err}
+use Rattle.std.proofs.Common.{◌∙◌, refl, sym, ap, arith, map, Some, None, ℕ, ◌+◌}
 use Rattle.commands.specs.Commands.{parsed}
 use Rattle.session.specs.declared.answer.Answer.TheVariants.{BadLine}
 use Rattle.session.specs.Scripts.{answer_of}
-use Rattle.session.proofs.Folding.{so_far_start, so_far_more, script_finished, script_bad, script_no_memory, script_halted, here_is, in_parsed, all_parsed, within, rose_since}
+use Rattle.session.proofs.Folding.{so_far_start, so_far_more, script_finished, script_bad, script_no_memory, script_halted, here_is, in_parsed, all_parsed, within}
 use Rattle.session.proofs.script.do_lines.Goals as goal
 
 pub loop-line-init : goal.loop-line-init
