@@ -33,11 +33,13 @@ impl Sink for Trickle {
     }
 }
 
-fn trickle(alloc: Global, calls: u64) -> Trickle {
-    Trickle {
-        bytes: Vec::new(alloc),
-        calls,
-        faults: 0,
+impl Trickle {
+    fn new(alloc: Global, calls: u64) -> Trickle {
+        Trickle {
+            bytes: Vec::new(alloc),
+            calls,
+            faults: 0,
+        }
     }
 }
 
@@ -80,7 +82,7 @@ fn each_call_on_the_files_fails_in_turn(rt: HostRuntime) -> Result<(), OutOfMemo
 
 #[test]
 fn output_goes_out_a_byte_at_a_time(rt: HostRuntime) -> Result<(), OutOfMemory> {
-    let mut out = trickle(rt.alloc(), 100);
+    let mut out = Trickle::new(rt.alloc(), 100);
     let answer = does(rt.alloc(), 0, &mut out)?;
     assert_eq!(rt; status(&answer), 0);
     assert_eq!(rt; out.bytes.as_slice(), b"42\n".as_slice());
@@ -89,7 +91,7 @@ fn output_goes_out_a_byte_at_a_time(rt: HostRuntime) -> Result<(), OutOfMemory> 
 
 #[test]
 fn second_write_fails_after_one_byte(rt: HostRuntime) -> Result<(), OutOfMemory> {
-    let mut out = trickle(rt.alloc(), 1);
+    let mut out = Trickle::new(rt.alloc(), 1);
     let answer = does(rt.alloc(), 0, &mut out)?;
     assert_eq!(rt; status(&answer), 246);
     assert_eq!(rt;
