@@ -48,6 +48,11 @@ pub place-has : (name : List ℕ) (names : List (List ℕ)) → is_some (place_o
 place-has name [] = refl
 place-has name (x ∷ xs) = has_by name x xs (is_same name x) refl (place-has name xs)
 
+-- a map that tells the places of names has the key of each of them and no other
+pub index-has : (names : List (List ℕ)) (entries : List (Vec ℕ × ℕ)) (name : List ℕ) (key : Vec ℕ) → IsIndex names entries → key.items ≡ name
+    → is_some (lookup (is_at (λ k. slice_cmp nat_cmp key.items k.items)) entries) ≡ has_name names name
+index-has names entries name key h is = ap is_some (h.places key.items) ∙ place-has key.items names ∙ ap (has_name names) is
+
 -- A new name ---------------------------------------------------------------------------------
 
 other : (a b : Bool) → (a || b) ≡ false → (a ≡ false) × (b ≡ false)

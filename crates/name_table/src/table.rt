@@ -4,6 +4,7 @@ ghost use Rattle.name_table.specs.Names.{has_name, place_of, AreDistinct};
 use scheme_data::{OutOfMemory, Text};
 use std::alloc::Global;
 use std::collections::BTreeMap;
+use std::collections::btree_map::Entry;
 use std::marker::Model;
 
 /// Distinct names in order of first sight, each found by its bytes. They are kept in an ordered map,
@@ -77,13 +78,14 @@ impl NameTable {
         ensures ok { IfOk result (λ added. self.new ≡ (if added then self.old ++ name.now ∷ [] else self.old)) }
         ensures err { OnErr result (self.new ≡ self.old) }
     {
-        if self.contains(name) {
-            return Ok(false);
-        }
+        // The memory comes first, so that one look finds the name or makes its place.
         let text = Text::from_bytes(self.alloc, name)?;
         let key = Vec::from_slice(self.alloc, name)?;
         self.names.reserve(1)?;
-        self.places.insert(key, self.names.len())?;
+        let Entry::Vacant(entry) = self.places.entry(key)? else {
+            return Ok(false);
+        };
+        entry.insert(self.names.len());
         self.names.push_reserved(text);
         Ok(true)
     }
