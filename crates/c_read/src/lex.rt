@@ -1,13 +1,12 @@
 // The tokens of a text.
 ghost use Rattle.std.specs.Prelude.{◌≡◌, ℕ, ◌+◌, ◌≤◌, ◌∷◌, length, take, IfOk, nat_eq};
 ghost use Rattle.std.specs.List.{prefix_len};
-ghost use Rattle.c_tree.specs.Names.{is_alphanumeric};
 ghost use Rattle.c_tree.specs.declared.tree.Token.TheVariants.{Word};
 ghost use Rattle.c_tree.specs.Lexical.{Lexed, is_space, is_word_byte, is_mark, is_octal, escape_at, octal_at, spelled_at, quoted_from, lexeme, signed_lexeme, string_lexeme};
 ghost use Rattle.c_read.specs.Scans.{octal_byte, spelled_of, quoted_of, lexeme_of, GivesTokens};
 
 use crate::read::CReadErr;
-use c_tree::{Token, is_plain};
+use c_tree::{Token, is_plain, tells_alphanumeric};
 use scheme_data::{List, OutOfMemory, Stack, Text};
 use std::alloc::Global;
 
@@ -37,12 +36,6 @@ fn tells_space(b: u8) -> bool
     ensures { result ≡ is_space b }
 {
     b == b' ' || b == b'\n'
-}
-
-fn tells_alphanumeric(b: u8) -> bool
-    ensures { result ≡ is_alphanumeric b }
-{
-    (b >= b'0' && b <= b'9') || ((b >= b'A' && b <= b'Z') || (b >= b'a' && b <= b'z'))
 }
 
 fn tells_word(b: u8) -> bool

@@ -21,6 +21,7 @@ pub use function::{CFun, CItem, CProgram, CUnit};
 pub use laying::Layout;
 pub use name_tests::{
     names_function, names_initializer, names_label, names_local, names_main, names_maker,
+    tells_alphanumeric,
 };
 pub use name_texts::{
     function_name_text, initializer_name_text, label_name_text, local_name_text, maker_name_text,
