@@ -21,15 +21,14 @@ ghost use Rattle.c_read.specs.Productions.{
 };
 
 use crate::calls::{read_call, read_expression};
-use crate::queue::Queue;
 use crate::read::CReadErr;
 use crate::skips::{is_else_next, skip, skip_for, took, word};
 use crate::words::has_text;
 use c_tree::{Layout, Piece, Token, lay_out, names_label, names_local};
-use scheme_data::{List, OutOfMemory, Text};
+use scheme_data::{List, OutOfMemory, Stack, Text};
 use std::alloc::Global;
 
-fn read_returned(alloc: Global, tokens: &mut Queue<Token>) -> Result<Piece, CReadErr>
+fn read_returned(alloc: Global, tokens: &mut Stack<Token>) -> Result<Piece, CReadErr>
     ensures read { Took (returned tokens.old) result tokens.new }
     ensures spelled { IfOk result (λ x. YieldsPiece (Word (codes "return") ∷ tokens.old) x tokens.new) }
 {
@@ -39,7 +38,7 @@ fn read_returned(alloc: Global, tokens: &mut Queue<Token>) -> Result<Piece, CRea
 }
 
 #[tactic(auto, unfolding(crate::specs::Productions::condition))]
-fn read_condition(alloc: Global, tokens: &mut Queue<Token>) -> Result<Piece, CReadErr>
+fn read_condition(alloc: Global, tokens: &mut Stack<Token>) -> Result<Piece, CReadErr>
     ensures read { Took (condition tokens.old) result tokens.new }
     ensures spelled { IfOk result (λ x. YieldsPiece (Word (codes "if") ∷ tokens.old) x tokens.new) }
 {
@@ -50,7 +49,7 @@ fn read_condition(alloc: Global, tokens: &mut Queue<Token>) -> Result<Piece, CRe
     Ok(Piece::If(value))
 }
 
-fn read_assigned(alloc: Global, tokens: &mut Queue<Token>, word: Text) -> Result<Piece, CReadErr>
+fn read_assigned(alloc: Global, tokens: &mut Stack<Token>, word: Text) -> Result<Piece, CReadErr>
     ensures read { Took (assigned word tokens.old) result tokens.new }
     ensures spelled { IfOk result (λ x. YieldsPiece (Word word ∷ Mark 61 ∷ tokens.old) x tokens.new) }
 {
@@ -63,7 +62,7 @@ fn read_assigned(alloc: Global, tokens: &mut Queue<Token>, word: Text) -> Result
 }
 
 #[tactic(auto, unfolding(crate::specs::Productions::after_head))]
-fn skip_head(tokens: &mut Queue<Token>) -> Result<(), CReadErr>
+fn skip_head(tokens: &mut Stack<Token>) -> Result<(), CReadErr>
     ensures read { Skipped (after_head tokens.old) result tokens.new }
     ensures spelled { OnOk result (tokens.old ≡ head_tokens tokens.new) }
 {
@@ -75,7 +74,7 @@ fn skip_head(tokens: &mut Queue<Token>) -> Result<(), CReadErr>
     skip(tokens, b'{')
 }
 
-fn read_looped(tokens: &mut Queue<Token>, word: Text) -> Result<Piece, CReadErr>
+fn read_looped(tokens: &mut Stack<Token>, word: Text) -> Result<Piece, CReadErr>
     ensures read { Took (looped word tokens.old) result tokens.new }
     ensures spelled { IfOk result (λ x. YieldsPiece (Word word ∷ Mark 58 ∷ tokens.old) x tokens.new) }
 {
@@ -86,7 +85,7 @@ fn read_looped(tokens: &mut Queue<Token>, word: Text) -> Result<Piece, CReadErr>
     Ok(Piece::Loop(word))
 }
 
-fn read_called(alloc: Global, tokens: &mut Queue<Token>, word: Text) -> Result<Piece, CReadErr>
+fn read_called(alloc: Global, tokens: &mut Stack<Token>, word: Text) -> Result<Piece, CReadErr>
     ensures read { Took (called word tokens.old) result tokens.new }
     ensures spelled { IfOk result (λ x. YieldsPiece (Word word ∷ tokens.old) x tokens.new) }
 {
@@ -97,7 +96,7 @@ fn read_called(alloc: Global, tokens: &mut Queue<Token>, word: Text) -> Result<P
 }
 
 #[tactic(auto, unfolding(crate::specs::Productions::named_statement))]
-fn read_named(alloc: Global, tokens: &mut Queue<Token>, word: Text) -> Result<Piece, CReadErr>
+fn read_named(alloc: Global, tokens: &mut Stack<Token>, word: Text) -> Result<Piece, CReadErr>
     ensures read { Took (named_statement word tokens.old) result tokens.new }
     ensures spelled { IfOk result (λ x. YieldsPiece (Word word ∷ tokens.old) x tokens.new) }
 {
@@ -111,7 +110,7 @@ fn read_named(alloc: Global, tokens: &mut Queue<Token>, word: Text) -> Result<Pi
 }
 
 #[tactic(auto, unfolding(crate::specs::Productions::statement))]
-fn read_statement(alloc: Global, tokens: &mut Queue<Token>) -> Result<Piece, CReadErr>
+fn read_statement(alloc: Global, tokens: &mut Stack<Token>) -> Result<Piece, CReadErr>
     ensures read { Took (statement tokens.old) result tokens.new }
     ensures spelled { IfOk result (λ x. YieldsPiece tokens.old x tokens.new) }
 {
@@ -127,7 +126,7 @@ fn read_statement(alloc: Global, tokens: &mut Queue<Token>) -> Result<Piece, CRe
 
 // `else` goes on with the `if` whose block the brace before it closes.
 #[tactic(auto, unfolding(crate::specs::Productions::closing))]
-fn read_closing(tokens: &mut Queue<Token>) -> Result<Piece, CReadErr>
+fn read_closing(tokens: &mut Stack<Token>) -> Result<Piece, CReadErr>
     ensures read { Took (closing tokens.old) result tokens.new }
     ensures spelled { IfOk result (λ x. YieldsPiece (Mark 125 ∷ tokens.old) x tokens.new) }
 {
@@ -140,7 +139,7 @@ fn read_closing(tokens: &mut Queue<Token>) -> Result<Piece, CReadErr>
 }
 
 #[tactic(auto, unfolding(crate::specs::Productions::next_piece))]
-fn read_piece(alloc: Global, tokens: &mut Queue<Token>) -> Result<Piece, CReadErr>
+fn read_piece(alloc: Global, tokens: &mut Stack<Token>) -> Result<Piece, CReadErr>
     ensures read { Took (next_piece tokens.old) result tokens.new }
     ensures spelled { IfOk result (λ x. YieldsPiece tokens.old x tokens.new) }
 {
@@ -162,7 +161,7 @@ fn next_depth(depth: u64, piece: &Piece) -> Result<u64, OutOfMemory>
 }
 
 // Takes the closing brace of the function, if it is next.
-fn took_end(tokens: &mut Queue<Token>, depth: u64) -> bool
+fn took_end(tokens: &mut Stack<Token>, depth: u64) -> bool
     ensures { MatchBool result ((after_body depth tokens.old ≡ Some tokens.new) × (tokens.old ≡ Mark 125 ∷ tokens.new)) ((after_body depth tokens.old ≡ None) × (tokens.new ≡ tokens.old)) }
 {
     if depth != 0 {
@@ -172,7 +171,7 @@ fn took_end(tokens: &mut Queue<Token>, depth: u64) -> bool
 }
 
 // Keeps only how many blocks are open, since which piece belongs to which is for `lay_out` to find.
-fn read_pieces(alloc: Global, tokens: &mut Queue<Token>) -> Result<List<Piece>, CReadErr>
+fn read_pieces(alloc: Global, tokens: &mut Stack<Token>) -> Result<List<Piece>, CReadErr>
     ensures read { Took (all_pieces tokens.old) result tokens.new }
     ensures spelled { IfOk result (λ ps. YieldsPieces tokens.old ps (Mark 125 ∷ tokens.new)) }
 {
@@ -188,7 +187,7 @@ fn read_pieces(alloc: Global, tokens: &mut Queue<Token>) -> Result<List<Piece>, 
 
 /// The statements of a function, to its closing brace.
 #[tactic(auto, unfolding(crate::specs::Productions::body))]
-pub fn read_body(alloc: Global, tokens: &mut Queue<Token>) -> Result<Layout, CReadErr>
+pub fn read_body(alloc: Global, tokens: &mut Stack<Token>) -> Result<Layout, CReadErr>
     ensures read { TookAs laid_code (body tokens.old) result tokens.new }
     ensures spelled { IfOk result (λ l. YieldsBody tokens.old l tokens.new) }
 {

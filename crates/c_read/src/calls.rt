@@ -6,15 +6,14 @@ ghost use Rattle.c_read.specs.Sequences.{Took, onto, all, after_mark};
 ghost use Rattle.c_read.specs.Yields.{YieldsArgument, YieldsNext, YieldsArguments, YieldsCall, YieldsExpr};
 ghost use Rattle.c_read.specs.Productions.{argument, next_argument, arguments, call_of, expression};
 
-use crate::queue::Queue;
 use crate::read::CReadErr;
 use crate::skips::{skip, took, word};
 use crate::words::{atom, callee};
 use c_tree::{CArg, CCall, CExpr, Token};
-use scheme_data::{List, Text};
+use scheme_data::{List, Stack, Text};
 use std::alloc::Global;
 
-fn read_argument(tokens: &mut Queue<Token>) -> Result<CArg, CReadErr>
+fn read_argument(tokens: &mut Stack<Token>) -> Result<CArg, CReadErr>
     ensures read { Took (argument tokens.old) result tokens.new }
     ensures spelled { IfOk result (λ x. YieldsArgument tokens.old x tokens.new) }
 {
@@ -29,7 +28,7 @@ fn read_argument(tokens: &mut Queue<Token>) -> Result<CArg, CReadErr>
 }
 
 #[tactic(auto, unfolding(crate::specs::Productions::next_argument))]
-fn read_next_argument(tokens: &mut Queue<Token>) -> Result<CArg, CReadErr>
+fn read_next_argument(tokens: &mut Stack<Token>) -> Result<CArg, CReadErr>
     ensures read { Took (next_argument tokens.old) result tokens.new }
     ensures spelled { IfOk result (λ x. YieldsNext tokens.old x tokens.new) }
 {
@@ -39,7 +38,7 @@ fn read_next_argument(tokens: &mut Queue<Token>) -> Result<CArg, CReadErr>
 
 fn read_more_arguments(
     alloc: Global,
-    tokens: &mut Queue<Token>,
+    tokens: &mut Stack<Token>,
     first: CArg,
 ) -> Result<List<CArg>, CReadErr>
     ensures read { Took (onto (first ∷ []) (all next_argument (after_mark 41) tokens.old)) result tokens.new }
@@ -55,7 +54,7 @@ fn read_more_arguments(
 }
 
 #[tactic(auto, unfolding(crate::specs::Productions::arguments))]
-fn read_arguments(alloc: Global, tokens: &mut Queue<Token>) -> Result<List<CArg>, CReadErr>
+fn read_arguments(alloc: Global, tokens: &mut Stack<Token>) -> Result<List<CArg>, CReadErr>
     ensures read { Took (arguments tokens.old) result tokens.new }
     ensures spelled { IfOk result (λ x. YieldsArguments tokens.old x (Mark 41 ∷ tokens.new)) }
 {
@@ -67,7 +66,7 @@ fn read_arguments(alloc: Global, tokens: &mut Queue<Token>) -> Result<List<CArg>
 }
 
 /// The rest of a call, to its closing parenthesis.
-pub fn read_call(alloc: Global, tokens: &mut Queue<Token>, word: Text) -> Result<CCall, CReadErr>
+pub fn read_call(alloc: Global, tokens: &mut Stack<Token>, word: Text) -> Result<CCall, CReadErr>
     ensures read { Took (call_of word tokens.old) result tokens.new }
     ensures spelled { IfOk result (λ x. YieldsCall (Word word ∷ Mark 40 ∷ tokens.old) x tokens.new) }
 {
@@ -80,7 +79,7 @@ pub fn read_call(alloc: Global, tokens: &mut Queue<Token>, word: Text) -> Result
 
 /// An expression.
 #[tactic(auto, unfolding(crate::specs::Productions::expression))]
-pub fn read_expression(alloc: Global, tokens: &mut Queue<Token>) -> Result<CExpr, CReadErr>
+pub fn read_expression(alloc: Global, tokens: &mut Stack<Token>) -> Result<CExpr, CReadErr>
     ensures read { Took (expression tokens.old) result tokens.new }
     ensures spelled { IfOk result (λ x. YieldsExpr tokens.old x tokens.new) }
 {

@@ -23,18 +23,17 @@ ghost use Rattle.c_read.specs.Productions.{
 };
 
 use crate::bodies::read_body;
-use crate::queue::Queue;
 use crate::read::CReadErr;
 use crate::skips::{
     function_name, is_type_next, is_void_next, is_word_next, local_name, skip, took, type_word,
     word,
 };
 use c_tree::{CFun, CItem, CTy, CVar, Layout, Token};
-use scheme_data::{List, Text};
+use scheme_data::{List, Stack, Text};
 use std::alloc::Global;
 
 #[tactic(auto, unfolding(crate::specs::Productions::next_type))]
-fn read_next_type(tokens: &mut Queue<Token>) -> Result<CTy, CReadErr>
+fn read_next_type(tokens: &mut Stack<Token>) -> Result<CTy, CReadErr>
     ensures read { Took (next_type tokens.old) result tokens.new }
     ensures spelled { IfOk result (λ t. tokens.old ≡ Mark 44 ∷ Word (type_text t) ∷ tokens.new) }
 {
@@ -42,7 +41,7 @@ fn read_next_type(tokens: &mut Queue<Token>) -> Result<CTy, CReadErr>
     type_word(tokens)
 }
 
-fn read_types(alloc: Global, tokens: &mut Queue<Token>, first: CTy) -> Result<List<CTy>, CReadErr>
+fn read_types(alloc: Global, tokens: &mut Stack<Token>, first: CTy) -> Result<List<CTy>, CReadErr>
     ensures read { Took (onto (first ∷ []) (all next_type (after_mark 41) tokens.old)) result tokens.new }
     ensures spelled { IfOk result (λ ts. Word (type_text first) ∷ tokens.old ≡ type_tokens ts (Mark 41 ∷ tokens.new)) }
 {
@@ -56,7 +55,7 @@ fn read_types(alloc: Global, tokens: &mut Queue<Token>, first: CTy) -> Result<Li
 }
 
 #[tactic(auto, unfolding(crate::specs::Productions::variable))]
-fn read_variable(tokens: &mut Queue<Token>) -> Result<CVar, CReadErr>
+fn read_variable(tokens: &mut Stack<Token>) -> Result<CVar, CReadErr>
     ensures read { Took (variable tokens.old) result tokens.new }
     ensures spelled { IfOk result (λ x. YieldsVar tokens.old x tokens.new) }
 {
@@ -66,7 +65,7 @@ fn read_variable(tokens: &mut Queue<Token>) -> Result<CVar, CReadErr>
 }
 
 #[tactic(auto, unfolding(crate::specs::Productions::next_variable))]
-fn read_next_variable(tokens: &mut Queue<Token>) -> Result<CVar, CReadErr>
+fn read_next_variable(tokens: &mut Stack<Token>) -> Result<CVar, CReadErr>
     ensures read { Took (next_variable tokens.old) result tokens.new }
     ensures spelled { IfOk result (λ v. (tokens.old ≡ Mark 44 ∷ Word (type_text v.ty) ∷ Word v.name ∷ tokens.new) × IsTrue (is_local_name v.name)) }
 {
@@ -76,7 +75,7 @@ fn read_next_variable(tokens: &mut Queue<Token>) -> Result<CVar, CReadErr>
 
 fn read_params(
     alloc: Global,
-    tokens: &mut Queue<Token>,
+    tokens: &mut Stack<Token>,
     first: CVar,
 ) -> Result<List<CVar>, CReadErr>
     ensures read { Took (onto (first ∷ []) (all next_variable (after_mark 41) tokens.old)) result tokens.new }
@@ -92,7 +91,7 @@ fn read_params(
 }
 
 #[tactic(auto, unfolding(crate::specs::Productions::local))]
-fn read_local(tokens: &mut Queue<Token>) -> Result<CVar, CReadErr>
+fn read_local(tokens: &mut Stack<Token>) -> Result<CVar, CReadErr>
     ensures read { Took (local tokens.old) result tokens.new }
     ensures spelled { IfOk result (λ x. YieldsVar tokens.old x (Mark 59 ∷ tokens.new)) }
 {
@@ -101,7 +100,7 @@ fn read_local(tokens: &mut Queue<Token>) -> Result<CVar, CReadErr>
     Ok(var)
 }
 
-fn read_locals(alloc: Global, tokens: &mut Queue<Token>) -> Result<List<CVar>, CReadErr>
+fn read_locals(alloc: Global, tokens: &mut Stack<Token>) -> Result<List<CVar>, CReadErr>
     ensures read { Took (locals tokens.old) result tokens.new }
     ensures spelled { IfOk result (λ x. YieldsLocals tokens.old x tokens.new) }
 {
@@ -116,7 +115,7 @@ fn read_locals(alloc: Global, tokens: &mut Queue<Token>) -> Result<List<CVar>, C
 #[tactic(auto, unfolding(crate::specs::Productions::definition))]
 fn read_definition(
     alloc: Global,
-    tokens: &mut Queue<Token>,
+    tokens: &mut Stack<Token>,
     result_type: CTy,
     name: Text,
     params: List<CVar>,
@@ -139,7 +138,7 @@ fn read_definition(
 #[tactic(auto, unfolding(crate::specs::Productions::without_params))]
 fn read_without_params(
     alloc: Global,
-    tokens: &mut Queue<Token>,
+    tokens: &mut Stack<Token>,
     result_type: CTy,
     name: Text,
 ) -> Result<CItem, CReadErr>
@@ -156,7 +155,7 @@ fn read_without_params(
 #[tactic(auto, unfolding(crate::specs::Productions::with_types))]
 fn read_with_types(
     alloc: Global,
-    tokens: &mut Queue<Token>,
+    tokens: &mut Stack<Token>,
     result_type: CTy,
     name: Text,
     first: CTy,
@@ -172,7 +171,7 @@ fn read_with_types(
 #[tactic(auto, unfolding(crate::specs::Productions::with_names))]
 fn read_with_names(
     alloc: Global,
-    tokens: &mut Queue<Token>,
+    tokens: &mut Stack<Token>,
     result_type: CTy,
     name: Text,
     first: CTy,
@@ -196,7 +195,7 @@ fn read_with_names(
 #[tactic(auto, unfolding(crate::specs::Productions::with_params))]
 fn read_with_params(
     alloc: Global,
-    tokens: &mut Queue<Token>,
+    tokens: &mut Stack<Token>,
     result_type: CTy,
     name: Text,
 ) -> Result<CItem, CReadErr>
@@ -213,7 +212,7 @@ fn read_with_params(
 #[tactic(auto, unfolding(crate::specs::Productions::item_rest))]
 fn read_item_rest(
     alloc: Global,
-    tokens: &mut Queue<Token>,
+    tokens: &mut Stack<Token>,
     result_type: CTy,
     name: Text,
 ) -> Result<CItem, CReadErr>
@@ -229,7 +228,7 @@ fn read_item_rest(
 }
 
 #[tactic(auto, unfolding(crate::specs::Productions::item))]
-fn read_item(alloc: Global, tokens: &mut Queue<Token>) -> Result<CItem, CReadErr>
+fn read_item(alloc: Global, tokens: &mut Stack<Token>) -> Result<CItem, CReadErr>
     ensures read { TookAs item_of (item tokens.old) result tokens.new }
     ensures spelled { IfOk result (λ x. YieldsItem tokens.old x tokens.new) }
 {
@@ -240,7 +239,7 @@ fn read_item(alloc: Global, tokens: &mut Queue<Token>) -> Result<CItem, CReadErr
 }
 
 /// All items.
-pub fn read_items(alloc: Global, tokens: &mut Queue<Token>) -> Result<List<CItem>, CReadErr>
+pub fn read_items(alloc: Global, tokens: &mut Stack<Token>) -> Result<List<CItem>, CReadErr>
     ensures read { TookAs items_of (parsed tokens.old) result tokens.new }
     ensures spelled { IfOk result (λ x. YieldsItems tokens.old x []) }
 {

@@ -1,15 +1,13 @@
 // The tokens of a text.
 ghost use Rattle.std.specs.Prelude.{◌≡◌, ℕ, ◌+◌, ◌≤◌, ◌∷◌, length, take, IfOk, nat_eq};
 ghost use Rattle.std.specs.List.{prefix_len};
-ghost use Rattle.c_tree.specs.Names.{is_alphanumeric};
 ghost use Rattle.c_tree.specs.declared.tree.Token.TheVariants.{Word};
-ghost use Rattle.c_tree.specs.Lexical.{Lexed, is_space, is_word_byte, is_mark, is_plain, is_octal, escape_at, octal_at, spelled_at, quoted_from, lexeme, signed_lexeme, string_lexeme};
+ghost use Rattle.c_tree.specs.Lexical.{Lexed, is_space, is_word_byte, is_mark, is_octal, escape_at, octal_at, spelled_at, quoted_from, lexeme, signed_lexeme, string_lexeme};
 ghost use Rattle.c_read.specs.Scans.{octal_byte, spelled_of, quoted_of, lexeme_of, GivesTokens};
 
-use crate::queue::Queue;
 use crate::read::CReadErr;
-use c_tree::Token;
-use scheme_data::{OutOfMemory, Text};
+use c_tree::{Token, is_plain, tells_alphanumeric};
+use scheme_data::{List, OutOfMemory, Stack, Text};
 use std::alloc::Global;
 
 /// A byte of a string, with the number of the bytes that spell it, less the first.
@@ -40,12 +38,6 @@ fn tells_space(b: u8) -> bool
     b == b' ' || b == b'\n'
 }
 
-fn tells_alphanumeric(b: u8) -> bool
-    ensures { result ≡ is_alphanumeric b }
-{
-    (b >= b'0' && b <= b'9') || ((b >= b'A' && b <= b'Z') || (b >= b'a' && b <= b'z'))
-}
-
 fn tells_word(b: u8) -> bool
     ensures { result ≡ is_word_byte b }
 {
@@ -64,12 +56,6 @@ fn tells_mark(b: u8) -> bool
         || b == b'='
         || b == b'{'
         || b == b'}'
-}
-
-fn tells_plain(b: u8) -> bool
-    ensures { result ≡ is_plain b }
-{
-    (b >= b' ' && b <= b'~') && (b != b'"' && b != b'\\')
 }
 
 fn tells_octal(b: u8) -> bool
@@ -120,7 +106,7 @@ fn escaped_string_byte(rest: &[u8]) -> Option<StringByte>
 fn string_byte_at(b: u8, rest: &[u8]) -> Option<StringByte>
     ensures { spelled_of result ≡ spelled_at b rest.now }
 {
-    if tells_plain(b) {
+    if is_plain(b) {
         return Some(StringByte { byte: b, more: 0 });
     }
     if b == b'\\' {
@@ -220,11 +206,18 @@ fn scan_at(alloc: Global, first: u8, rest: &[u8]) -> Result<Scan, OutOfMemory>
     Ok(Scan::Wrong)
 }
 
+// The reader takes tokens off at the front.
+fn first_on_top(tokens: List<Token>) -> Stack<Token>
+    ensures { result ≡ tokens }
+{
+    tokens.into_stack().into_list().into_stack()
+}
+
 /// The tokens of a text. A text with a byte that begins no token is refused at once: from an open quote it could be scanned again and again.
-pub fn tokens(alloc: Global, bytes: &[u8]) -> Result<Queue<Token>, CReadErr>
+pub fn tokens(alloc: Global, bytes: &[u8]) -> Result<Stack<Token>, CReadErr>
     ensures { GivesTokens bytes.now result }
 {
-    let mut found = Vec::new(alloc);
+    let mut found = List::new(alloc);
     let mut skip: usize = 0;
     for i in 0..bytes.len() {
         if skip > 0 {
@@ -240,5 +233,5 @@ pub fn tokens(alloc: Global, bytes: &[u8]) -> Result<Queue<Token>, CReadErr>
             }
         }
     }
-    Ok(Queue::of(found))
+    Ok(first_on_top(found))
 }

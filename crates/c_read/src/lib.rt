@@ -5,7 +5,6 @@ mod bodies;
 mod calls;
 mod items;
 mod lex;
-mod queue;
 mod read;
 mod skips;
 mod words;

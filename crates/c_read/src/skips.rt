@@ -4,18 +4,23 @@ ghost use Rattle.std.specs.Option.{option_copied, is_some};
 ghost use Rattle.c_tree.specs.declared.tree.Token.TheVariants.{Word, Mark};
 ghost use Rattle.c_tree.specs.Spelling.{type_text};
 ghost use Rattle.c_tree.specs.Names.{is_function_name, is_local_name};
-ghost use Rattle.c_read.specs.Sequences.{Took, Skipped, after_mark, word_first, named, first_word, is_first};
+ghost use Rattle.c_read.specs.Sequences.{front, Took, Skipped, after_mark, word_first, named, first_word, is_first};
 ghost use Rattle.c_read.specs.Words.{is_else};
 ghost use Rattle.c_read.specs.Productions.{after_for, is_type, any_word, is_void, type_first};
 
-use crate::queue::Queue;
 use crate::read::CReadErr;
 use crate::words::{has_text, type_by_name};
 use c_tree::{CTy, Token, names_function, names_local};
-use scheme_data::Text;
+use scheme_data::{Stack, Text};
+
+fn next(tokens: &Stack<Token>) -> Option<&Token>
+    ensures { option_copied result ≡ front tokens.now }
+{
+    tokens.top()
+}
 
 /// Takes this mark, if it is next.
-pub fn took(tokens: &mut Queue<Token>, mark: u8) -> bool
+pub fn took(tokens: &mut Stack<Token>, mark: u8) -> bool
     ensures { MatchBool result ((after_mark mark tokens.old ≡ Some tokens.new) × (tokens.old ≡ Mark mark ∷ tokens.new)) ((after_mark mark tokens.old ≡ None) × (tokens.new ≡ tokens.old)) }
 {
     if !is_next(tokens, mark) {
@@ -25,17 +30,17 @@ pub fn took(tokens: &mut Queue<Token>, mark: u8) -> bool
     true
 }
 
-fn is_next(tokens: &Queue<Token>, mark: u8) -> bool
+fn is_next(tokens: &Stack<Token>, mark: u8) -> bool
     ensures { result ≡ is_some (after_mark mark tokens.now) }
 {
-    match tokens.first() {
+    match next(tokens) {
         Some(Token::Mark(m)) => *m == mark,
         _ => false,
     }
 }
 
 /// Takes this mark.
-pub fn skip(tokens: &mut Queue<Token>, mark: u8) -> Result<(), CReadErr>
+pub fn skip(tokens: &mut Stack<Token>, mark: u8) -> Result<(), CReadErr>
     ensures read { Skipped (after_mark mark tokens.old) result tokens.new }
     ensures spelled { OnOk result (tokens.old ≡ Mark mark ∷ tokens.new) }
 {
@@ -46,7 +51,7 @@ pub fn skip(tokens: &mut Queue<Token>, mark: u8) -> Result<(), CReadErr>
 }
 
 /// Takes a word.
-pub fn word(tokens: &mut Queue<Token>) -> Result<Text, CReadErr>
+pub fn word(tokens: &mut Stack<Token>) -> Result<Text, CReadErr>
     ensures read { Took (word_first tokens.old) result tokens.new }
     ensures spelled { IfOk result (λ w. tokens.old ≡ Word w ∷ tokens.new) }
 {
@@ -56,7 +61,7 @@ pub fn word(tokens: &mut Queue<Token>) -> Result<Text, CReadErr>
     }
 }
 
-pub fn skip_for(tokens: &mut Queue<Token>) -> Result<(), CReadErr>
+pub fn skip_for(tokens: &mut Stack<Token>) -> Result<(), CReadErr>
     ensures read { Skipped (after_for tokens.old) result tokens.new }
     ensures spelled { OnOk result (tokens.old ≡ Word (codes "for") ∷ tokens.new) }
 {
@@ -67,7 +72,7 @@ pub fn skip_for(tokens: &mut Queue<Token>) -> Result<(), CReadErr>
     Err(CReadErr::NotC)
 }
 
-pub fn function_name(tokens: &mut Queue<Token>) -> Result<Text, CReadErr>
+pub fn function_name(tokens: &mut Stack<Token>) -> Result<Text, CReadErr>
     ensures read { Took (named is_function_name tokens.old) result tokens.new }
     ensures spelled { IfOk result (λ w. (tokens.old ≡ Word w ∷ tokens.new) × IsTrue (is_function_name w)) }
 {
@@ -78,7 +83,7 @@ pub fn function_name(tokens: &mut Queue<Token>) -> Result<Text, CReadErr>
     Err(CReadErr::NotC)
 }
 
-pub fn local_name(tokens: &mut Queue<Token>) -> Result<Text, CReadErr>
+pub fn local_name(tokens: &mut Stack<Token>) -> Result<Text, CReadErr>
     ensures read { Took (named is_local_name tokens.old) result tokens.new }
     ensures spelled { IfOk result (λ w. (tokens.old ≡ Word w ∷ tokens.new) × IsTrue (is_local_name w)) }
 {
@@ -90,7 +95,7 @@ pub fn local_name(tokens: &mut Queue<Token>) -> Result<Text, CReadErr>
 }
 
 #[tactic(auto, unfolding(crate::specs::Productions::type_first))]
-pub fn type_word(tokens: &mut Queue<Token>) -> Result<CTy, CReadErr>
+pub fn type_word(tokens: &mut Stack<Token>) -> Result<CTy, CReadErr>
     ensures read { Took (type_first tokens.old) result tokens.new }
     ensures spelled { IfOk result (λ t. tokens.old ≡ Word (type_text t) ∷ tokens.new) }
 {
@@ -101,22 +106,22 @@ pub fn type_word(tokens: &mut Queue<Token>) -> Result<CTy, CReadErr>
     }
 }
 
-fn next_word(tokens: &Queue<Token>) -> Option<&Text>
+fn next_word(tokens: &Stack<Token>) -> Option<&Text>
     ensures { option_copied result ≡ first_word tokens.now }
 {
-    match tokens.first() {
+    match next(tokens) {
         Some(Token::Word(word)) => Some(word),
         _ => None,
     }
 }
 
-pub fn is_word_next(tokens: &Queue<Token>) -> bool
+pub fn is_word_next(tokens: &Stack<Token>) -> bool
     ensures { result ≡ is_first any_word tokens.now }
 {
     next_word(tokens).is_some()
 }
 
-pub fn is_type_next(tokens: &Queue<Token>) -> bool
+pub fn is_type_next(tokens: &Stack<Token>) -> bool
     ensures { result ≡ is_first is_type tokens.now }
 {
     match next_word(tokens) {
@@ -125,7 +130,7 @@ pub fn is_type_next(tokens: &Queue<Token>) -> bool
     }
 }
 
-pub fn is_else_next(tokens: &Queue<Token>) -> bool
+pub fn is_else_next(tokens: &Stack<Token>) -> bool
     ensures { result ≡ is_first is_else tokens.now }
 {
     match next_word(tokens) {
@@ -134,7 +139,7 @@ pub fn is_else_next(tokens: &Queue<Token>) -> bool
     }
 }
 
-pub fn is_void_next(tokens: &Queue<Token>) -> bool
+pub fn is_void_next(tokens: &Stack<Token>) -> bool
     ensures { result ≡ is_first is_void tokens.now }
 {
     match next_word(tokens) {

@@ -12,6 +12,7 @@ mod op;
 mod op_names;
 mod order;
 mod pieces;
+mod plain;
 mod tree;
 mod unmangling;
 mod walk;
@@ -20,6 +21,7 @@ pub use function::{CFun, CItem, CProgram, CUnit};
 pub use laying::Layout;
 pub use name_tests::{
     names_function, names_initializer, names_label, names_local, names_main, names_maker,
+    tells_alphanumeric,
 };
 pub use name_texts::{
     function_name_text, initializer_name_text, label_name_text, local_name_text, maker_name_text,
@@ -29,4 +31,5 @@ pub use op::{Op, Wants};
 pub use op_names::op_by_name;
 pub use order::{lay_out, pieces_in};
 pub use pieces::{Piece, PieceRef};
+pub use plain::is_plain;
 pub use tree::{CArg, CAtom, CBlock, CCall, CExpr, CStmt, CTy, CVar, Callee, Token};

@@ -8,6 +8,7 @@ ghost use Rattle.c_tree.specs.declared.names.NameState.TheVariants.{ModuleEscape
 use crate::names::NameState;
 use scheme_data::is_digit;
 
+/// Whether a byte is a letter or a digit.
 pub fn tells_alphanumeric(byte: u8) -> bool
     ensures { result ≡ is_alphanumeric byte }
 {

@@ -1,22 +1,16 @@
 // Strings in a C text.
 ghost use Rattle.std.specs.Prelude.{◌≡◌, ◌++◌, ◌∷◌, OnOk};
 ghost use Rattle.c_tree.specs.declared.tree.Token.TheVariants.{Str};
-ghost use Rattle.c_tree.specs.Lexical.{is_plain};
 ghost use Rattle.c_write.specs.Adds.{Adds, anything, apart};
 ghost use Rattle.c_write.specs.Escapes.{escaped_byte, escaped};
 
+use c_tree::is_plain;
 use scheme_data::{OutOfMemory, Text};
-
-fn stands_as_it_is(byte: u8) -> bool
-    ensures { result ≡ is_plain byte }
-{
-    b' ' <= byte && byte <= b'~' && byte != b'"' && byte != b'\\'
-}
 
 fn put_escaped_byte(out: &mut Text, byte: u8) -> Result<(), OutOfMemory>
     ensures { OnOk result (out.new ≡ out.old ++ escaped_byte byte) }
 {
-    if stands_as_it_is(byte) {
+    if is_plain(byte) {
         return out.push(byte);
     }
     if byte == b'"' || byte == b'\\' {

@@ -16,8 +16,8 @@ returns-in-Wrong c =
     let none : c.loop-i.skip ≡ 0 = omega arith in
     let is : Lexed Bad 0 ≡ lexeme (get_or bytes i 0) (drop (i + 1) bytes) =
     ap lexeme_of (sym c.in-Wrong.is) ∙ c.in_ok-scan_at.ensures ∙ ap (lexeme (get_or bytes i 0)) (take_rest bytes (i + 1)) in
-    ap has_bad (c.loop-i.invariant ∙ ap (λ ts. c.loop-i.found.items ++ ts) (scanned bytes i c.loop-i.skip (Lexed Bad 0) within none is))
-    ∙ bad_within c.loop-i.found.items (tokens_from 0 (drop (i + 1) bytes))
+    ap has_bad (c.loop-i.invariant ∙ ap (λ ts. c.loop-i.found ++ ts) (scanned bytes i c.loop-i.skip (Lexed Bad 0) within none is))
+    ∙ bad_within c.loop-i.found (tokens_from 0 (drop (i + 1) bytes))
 
 pub loop-i-preserved : goal.loop-i-preserved
 loop-i-preserved c =
@@ -27,23 +27,23 @@ loop-i-preserved c =
     let next : ℕ → List Token = λ k. tokens_from k (drop (i + 1) bytes) in
     elim c.if-skip-gt0.branch [
       | then-skip-gt0 w ↦
-          c.loop-i.invariant ∙ ap (λ ts. c.loop-i.found.items ++ ts) (skipped bytes i c.loop-i.skip within w.if-skip-gt0.true ∙ ap next (sym w.skip-is))
-          ∙ ap (λ f. f.items ++ next c.if-skip-gt0.skip) (sym w.found-is)
+          c.loop-i.invariant ∙ ap (λ ts. c.loop-i.found ++ ts) (skipped bytes i c.loop-i.skip within w.if-skip-gt0.true ∙ ap next (sym w.skip-is))
+          ∙ ap (λ f. f ++ next c.if-skip-gt0.skip) (sym w.found-is)
       | else-skip-gt0+in_ok-scan_at+in-Gap w ↦
           let none : c.loop-i.skip ≡ 0 = omega arith in
           let is : Gap ≡ lexeme (get_or bytes i 0) (drop (i + 1) bytes) =
           ap lexeme_of (sym w.in-Gap.is) ∙ w.in_ok-scan_at.ensures ∙ ap (lexeme (get_or bytes i 0)) (take_rest bytes (i + 1)) in
           c.loop-i.invariant
-          ∙ ap (λ ts. c.loop-i.found.items ++ ts) (scanned bytes i c.loop-i.skip Gap within none is ∙ ap next (sym none ∙ sym w.skip-is))
-          ∙ ap (λ f. f.items ++ next c.if-skip-gt0.skip) (sym w.found-is)
+          ∙ ap (λ ts. c.loop-i.found ++ ts) (scanned bytes i c.loop-i.skip Gap within none is ∙ ap next (sym none ∙ sym w.skip-is))
+          ∙ ap (λ f. f ++ next c.if-skip-gt0.skip) (sym w.found-is)
       | else-skip-gt0+in_ok-scan_at+in-Lexed+in_ok-push-in-Lexed w ↦
           let none : c.loop-i.skip ≡ 0 = omega arith in
           let is : Lexed w.in-Lexed.token w.in-Lexed.more ≡ lexeme (get_or bytes i 0) (drop (i + 1) bytes) =
           ap lexeme_of (sym w.in-Lexed.is) ∙ w.in_ok-scan_at.ensures ∙ ap (lexeme (get_or bytes i 0)) (take_rest bytes (i + 1)) in
           c.loop-i.invariant
-          ∙ ap (λ ts. c.loop-i.found.items ++ ts) (scanned bytes i c.loop-i.skip (Lexed w.in-Lexed.token w.in-Lexed.more) within none is)
-          ∙ one_token c.loop-i.found.items w.in-Lexed.token (next w.in-Lexed.more)
-          ∙ ap (λ xs. xs ++ next w.in-Lexed.more) (sym w.in_ok-push-in-Lexed.ensures.items)
-          ∙ ap (λ f. f.items ++ next w.in-Lexed.more) (sym w.found-is)
-          ∙ ap (λ k. c.if-skip-gt0.found.items ++ next k) (sym w.skip-is)
+          ∙ ap (λ ts. c.loop-i.found ++ ts) (scanned bytes i c.loop-i.skip (Lexed w.in-Lexed.token w.in-Lexed.more) within none is)
+          ∙ one_token c.loop-i.found w.in-Lexed.token (next w.in-Lexed.more)
+          ∙ ap (λ xs. xs ++ next w.in-Lexed.more) (sym w.in_ok-push-in-Lexed.ensures.ok)
+          ∙ ap (λ f. f ++ next w.in-Lexed.more) (sym w.found-is)
+          ∙ ap (λ k. c.if-skip-gt0.found ++ next k) (sym w.skip-is)
     ]
