@@ -47,14 +47,6 @@ impl<T> List<T> {
         })
     }
 
-    /// Makes room for so many more items.
-    pub fn reserve(&mut self, count: usize) -> Result<(), OutOfMemory>
-        ensures { self.new ≡ self.old }
-    {
-        self.items.reserve(count)?;
-        Ok(())
-    }
-
     pub(crate) fn of(items: Vec<T>) -> List<T>
         ensures { result ≡ items.items }
     {

@@ -16,7 +16,6 @@ fn texts_lists_and_stacks_hold_what_is_pushed(rt: HostRuntime) -> Result<(), Out
     texts.push(text)?;
     assert_eq!(rt; texts.len(), 1);
     let mut calls = CallList::new(alloc);
-    calls.reserve(1)?;
     calls.push(7)?;
     assert!(rt; calls.get(0) == Some(&7));
     let mut stack = Stack::new(alloc);

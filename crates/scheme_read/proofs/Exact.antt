@@ -5,7 +5,7 @@ use Rattle.scheme_data.specs.declared.datum.Place.{Place}
 use Rattle.scheme_data.specs.declared.datum.LimitKind.TheVariants.{Bytes, Depth}
 use Rattle.scheme_data.specs.declared.datum.Datum.{Datum}
 use Rattle.scheme_tokens.specs.declared.token.Token.{Token}
-use Rattle.scheme_tokens.specs.Places.{end}
+use Rattle.scheme_data.specs.Places.{end}
 use Rattle.scheme_tokens.specs.Tokens.{tokens}
 use Rattle.scheme_read.specs.declared.error.ReadErr.{ReadErr}
 use Rattle.scheme_read.specs.declared.error.ReadErr.TheVariants.{Syntax, Limit, Memory}

@@ -7,7 +7,7 @@ use Rattle.scheme_data.specs.declared.datum.Datum.{Datum}
 use Rattle.scheme_tokens.specs.declared.lex.Lexeme.{Lexeme}
 use Rattle.scheme_tokens.specs.declared.token.Token.{Token}
 use Rattle.scheme_tokens.specs.Lexemes.{lexeme}
-use Rattle.scheme_tokens.specs.Places.{after, end, end_from}
+use Rattle.scheme_data.specs.Places.{after, end, end_from}
 use Rattle.scheme_tokens.specs.Tokens.{emit, tokens, tokens_from}
 use Rattle.scheme_read.specs.declared.error.ReadErr.{ReadErr}
 use Rattle.scheme_read.specs.declared.error.ReadErr.TheVariants.{Syntax, Limit, Memory}

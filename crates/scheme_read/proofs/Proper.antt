@@ -22,7 +22,7 @@ use Rattle.scheme_tokens.specs.declared.token.Word.TheVariants as word
 use Rattle.scheme_tokens.specs.Comments.{not_newline, comment_len}
 use Rattle.scheme_tokens.specs.Hashes.{constant_word, named_byte, byte_word, character_word, character_lexeme, comment_of, block_lexeme, constant_lexeme, hash_lexeme}
 use Rattle.scheme_tokens.specs.Lexemes.{lexeme, mark_word}
-use Rattle.scheme_tokens.specs.Places.{after, start}
+use Rattle.scheme_data.specs.Places.{after, start}
 use Rattle.scheme_tokens.specs.Strings.{escaped_byte, is_escaping, part, spelled_len, unescaped, string_of, string_lexeme}
 use Rattle.scheme_tokens.specs.Tokens.{token, emit, tokens_from}
 use Rattle.scheme_tokens.specs.Words.{is_space, number_in, number_or_other, word_of}

@@ -2,7 +2,7 @@
 use Rattle.std.specs.Prelude.{◌≡◌, ℕ, ◌<◌, ◌≤◌, List, length, Result, Ok, Err}
 use Rattle.scheme_data.specs.declared.datum.Datum.{Datum}
 use Rattle.scheme_data.specs.declared.datum.LimitKind.TheVariants.{Bytes, Depth}
-use Rattle.scheme_tokens.specs.Places.{start, end}
+use Rattle.scheme_data.specs.Places.{start, end}
 use Rattle.scheme_tokens.specs.Tokens.{tokens}
 use Rattle.scheme_read.specs.declared.error.ReadErr.{ReadErr}
 use Rattle.scheme_read.specs.declared.error.ReadErr.TheVariants.{Syntax, Limit, Memory}

@@ -6,8 +6,8 @@ ghost use Rattle.scheme_read.specs.Answers.{Reads, Gives, Refuses, IsSource, IsF
 
 use crate::error::ReadErr;
 use crate::reader::Reader;
-use scheme_data::{Datum, LimitKind, List, Place, Stack};
-use scheme_tokens::{Lexeme, Token, lexeme_at, place_after};
+use scheme_data::{Datum, LimitKind, List, Place, Stack, place_after};
+use scheme_tokens::{Lexeme, Token, lexeme_at};
 use std::alloc::Global;
 
 /// How many bytes a source may have.

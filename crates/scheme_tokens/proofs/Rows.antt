@@ -6,7 +6,7 @@ use Rattle.scheme_tokens.specs.declared.token.Atom.TheVariants as atom
 use Rattle.scheme_tokens.specs.declared.token.Word.TheVariants as word
 use Rattle.scheme_tokens.specs.Hashes.{hash_lexeme, character_lexeme}
 use Rattle.scheme_tokens.specs.Lexemes.{lexeme}
-use Rattle.scheme_tokens.specs.Places.{after, end}
+use Rattle.scheme_data.specs.Places.{after, end}
 use Rattle.scheme_tokens.specs.Strings.{string_lexeme}
 use Rattle.scheme_tokens.specs.Tokens.{token, tokens}
 use Rattle.scheme_tokens.specs.Words.{word_of}

@@ -2,7 +2,6 @@ pub mod Comments
 pub mod Digits
 pub mod Hashes
 pub mod Lexemes
-pub mod Places
 pub mod Strings
 pub mod Tokens
 pub mod Words

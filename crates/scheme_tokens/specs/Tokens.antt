@@ -6,7 +6,7 @@ use Rattle.scheme_tokens.specs.declared.lex.Lexeme.TheVariants as lexed
 use Rattle.scheme_tokens.specs.declared.token.Token.{Token}
 use Rattle.scheme_tokens.specs.declared.token.Word.{Word}
 use Rattle.scheme_tokens.specs.Lexemes.{lexeme}
-use Rattle.scheme_tokens.specs.Places.{after, start}
+use Rattle.scheme_data.specs.Places.{after, start}
 
 abbrev pub token : Place → Word → Token
 token at w = record { at = at; word = w }

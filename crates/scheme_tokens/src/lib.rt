@@ -5,13 +5,11 @@ mod bytes;
 mod comments;
 mod hashes;
 mod lex;
-mod place;
 mod strings;
 mod token;
 mod words;
 
 pub use lex::{Lexeme, lexeme_at};
-pub use place::place_after;
 pub use token::{Atom, Token, Word};
 
 #[cfg(test)]

@@ -1,5 +1,4 @@
-use crate::place_after;
-use scheme_data::Place;
+use scheme_data::{Place, place_after};
 
 #[test]
 fn lines_and_columns_stop_at_their_last_number(rt: HostRuntime) {

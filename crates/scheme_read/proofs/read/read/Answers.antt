@@ -2,7 +2,7 @@ use Rattle.std.proofs.Common.{◌≡◌, ℕ, false, ◌+◌, ◌<◌, ◌≤◌
 use Rattle.std.proofs.lemmas.Result.{err_from_is_err_and}
 use Rattle.scheme_tokens.specs.declared.lex.Lexeme.TheVariants as lexed
 use Rattle.scheme_tokens.specs.Lexemes.{lexeme}
-use Rattle.scheme_tokens.specs.Places.{after, end_from}
+use Rattle.scheme_data.specs.Places.{after, end_from}
 use Rattle.scheme_tokens.specs.Tokens.{token, tokens_from}
 use Rattle.scheme_read.proofs.Middle.{moved, rest_is, skipped, scanned, end_on, middle_low, middle_start, middle_step, took_not, ended_well, ended_short, none_left, end_left}
 use Rattle.scheme_read.proofs.read.read.Goals as goal

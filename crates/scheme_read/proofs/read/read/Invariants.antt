@@ -1,5 +1,5 @@
 use Rattle.std.proofs.Common.{◌≡◌, drop}
-use Rattle.scheme_tokens.specs.Places.{end, end_from}
+use Rattle.scheme_data.specs.Places.{end, end_from}
 use Rattle.scheme_tokens.specs.Tokens.{tokens_from}
 use Rattle.scheme_read.proofs.Middle.{IsMiddle}
 use Rattle.scheme_read.proofs.read.read.Given as goal

@@ -1,7 +1,7 @@
 ghost use Rattle.std.specs.Prelude.{◌≡◌};
-ghost use Rattle.scheme_tokens.specs.Places.{next_number, after};
+ghost use Rattle.scheme_data.specs.Places.{next_number, after};
 
-use scheme_data::Place;
+use crate::datum::Place;
 
 fn next(n: u32) -> u32
     ensures { result ≡ next_number n }
