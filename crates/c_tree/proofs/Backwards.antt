@@ -11,12 +11,12 @@ use Rattle.c_tree.specs.declared.pieces.Piece.{Piece}
 use Rattle.c_tree.specs.declared.pieces.Piece.TheVariants as piece
 use Rattle.c_tree.specs.declared.closing.Closing.{Closing}
 use Rattle.c_tree.specs.declared.building.Building.{Building}
-use Rattle.c_tree.specs.Code.{Code, done, assign, call, return, test, loop}
+use Rattle.c_tree.specs.Code.{Code, done, assign, call, return, test, loop, ended, goto, catch, protect}
 use Rattle.c_tree.specs.Layout.{size, block, flat, code_of, IsLaid}
 use Rattle.c_tree.specs.Pieces.{pieces, LaysOut, GivesCode}
 use Rattle.c_tree.specs.Steps.{weight, weights, put}
 use Rattle.c_tree.proofs.Ranges.{is_laid, code_of-flat}
-use Rattle.c_tree.proofs.Left.{Frame, ends, turns, Left, left, flat_left, closings_left, pieces_left, read, read_more, read_piece, read-left, read-pieces, read-stuck, same_pieces, no_more}
+use Rattle.c_tree.proofs.Left.{Frame, ends, stops, turns, cleans, Left, left, flat_left, closings_left, pieces_left, read, read_more, read_piece, read-left, read-pieces, read-stuck, same_pieces, no_more}
 
 -- what is built of what is left
 abbrev pub built : Left → ℕ → Building
@@ -46,15 +46,43 @@ pub put_agrees : (p : Piece) (c : Code) (fs : List Frame) (at : ℕ) → weight 
 put_agrees (piece.Assign x e) c fs at h = (left (assign x e c) fs, refl, rw (first_before at h, before_all at (size c) h) refl, omega arith)
 put_agrees (piece.Call k) c fs at h = (left (call k c) fs, refl, rw (first_before at h, before_all at (size c) h) refl, omega arith)
 put_agrees (piece.Return e) c fs at h = (left (return e c) fs, refl, rw (first_before at h, before_all at (size c) h) refl, omega arith)
+put_agrees (piece.Goto l) c fs at h = (left (goto l c) fs, refl, rw (first_before at h, before_all at (size c) h) refl, omega arith)
 put_agrees (piece.If e) c [] at h = refl
 put_agrees (piece.If e) c (ends rest ∷ fs) at h = refl
+put_agrees (piece.If e) c (stops m rest ∷ fs) at h = refl
+put_agrees (piece.If e) c (cleans b rest ∷ fs) at h = refl
 put_agrees (piece.If e) c (turns b rest ∷ fs) at h = (left (test e c b rest) fs, refl, rw (first_before at h, all_of_if at (size c) (size b) (size rest) h) refl, omega arith)
 put_agrees piece.Else c [] at h = refl
-put_agrees piece.Else c (ends rest ∷ fs) at h = (left done (turns c rest ∷ fs), refl, rw (no_more at) refl, omega arith)
+put_agrees piece.Else c (stops m rest ∷ fs) at h = refl
 put_agrees piece.Else c (turns b rest ∷ fs) at h = refl
+put_agrees piece.Else c (cleans b rest ∷ fs) at h = refl
+put_agrees piece.Else c (ends rest ∷ fs) at h = (left done (turns c rest ∷ fs), refl, rw (no_more at) refl, omega arith)
 put_agrees (piece.Loop l) c [] at h = refl
-put_agrees (piece.Loop l) c (ends rest ∷ fs) at h = (left (loop l c rest) fs, refl, rw (first_before at h, all_of_loop at (size c) (size rest) h) refl, omega arith)
+put_agrees (piece.Loop l) c (stops m rest ∷ fs) at h = refl
 put_agrees (piece.Loop l) c (turns b rest ∷ fs) at h = refl
+put_agrees (piece.Loop l) c (cleans b rest ∷ fs) at h = refl
+put_agrees (piece.Loop l) c (ends rest ∷ fs) at h = (left (loop l c rest) fs, refl, rw (first_before at h, all_of_loop at (size c) (size rest) h) refl, omega arith)
+put_agrees piece.Begin c [] at h = refl
+put_agrees piece.Begin c (ends rest ∷ fs) at h = refl
+put_agrees piece.Begin c (turns b rest ∷ fs) at h = refl
+put_agrees piece.Begin c (cleans b rest ∷ fs) at h = refl
+put_agrees piece.Begin c (stops m rest ∷ fs) at h = (left (ended c m rest) fs, refl, rw (first_before at h, all_of_loop at (size c) (size rest) h) refl, omega arith)
+put_agrees (piece.Ended l) c fs at h = (left done (stops l c ∷ fs), refl, rw (no_more at) refl, omega arith)
+put_agrees (piece.Catch k r) c [] at h = refl
+put_agrees (piece.Catch k r) c (stops m rest ∷ fs) at h = refl
+put_agrees (piece.Catch k r) c (turns b rest ∷ fs) at h = refl
+put_agrees (piece.Catch k r) c (cleans b rest ∷ fs) at h = refl
+put_agrees (piece.Catch k r) c (ends rest ∷ fs) at h = (left (catch k r c rest) fs, refl, rw (first_before at h, all_of_loop at (size c) (size rest) h) refl, omega arith)
+put_agrees piece.Protect c [] at h = refl
+put_agrees piece.Protect c (ends rest ∷ fs) at h = refl
+put_agrees piece.Protect c (stops m rest ∷ fs) at h = refl
+put_agrees piece.Protect c (turns b rest ∷ fs) at h = refl
+put_agrees piece.Protect c (cleans b rest ∷ fs) at h = (left (protect c b rest) fs, refl, rw (first_before at h, all_of_if at (size c) (size b) (size rest) h) refl, omega arith)
+put_agrees piece.Cleanup c [] at h = refl
+put_agrees piece.Cleanup c (stops m rest ∷ fs) at h = refl
+put_agrees piece.Cleanup c (turns b rest ∷ fs) at h = refl
+put_agrees piece.Cleanup c (cleans b rest ∷ fs) at h = refl
+put_agrees piece.Cleanup c (ends rest ∷ fs) at h = (left done (cleans c rest ∷ fs), refl, rw (no_more at) refl, omega arith)
 put_agrees piece.End c fs at h = (left done (ends c ∷ fs), refl, rw (no_more at) refl, omega arith)
 
 weights-append : (ps qs : List Piece) → weights (ps ++ qs) ≡ weights ps + weights qs
@@ -65,9 +93,15 @@ pub weight_small : (p : Piece) → weight p ≤ 1
 weight_small (piece.Assign x e) = omega arith
 weight_small (piece.Call c) = omega arith
 weight_small (piece.Return e) = omega arith
+weight_small (piece.Goto l) = omega arith
 weight_small (piece.If e) = omega arith
 weight_small piece.Else = omega arith
 weight_small (piece.Loop l) = omega arith
+weight_small piece.Begin = omega arith
+weight_small (piece.Ended l) = omega arith
+weight_small (piece.Catch k r) = omega arith
+weight_small piece.Protect = omega arith
+weight_small piece.Cleanup = omega arith
 weight_small piece.End = omega arith
 
 pub weights-take : (ps : List Piece) (i : ℕ) (p : Piece) → i < length ps → p ≡ get_or ps i p → weights (take (i + 1) ps) ≡ weights (take i ps) + weight p
@@ -133,7 +167,9 @@ finished_at ps l cs e h none = of_frames l.frames l.code e (sym h ∙ none)
     of_frames : (fs : List Frame) (c : Code) → ps ≡ pieces_left (left c fs) → closings_left (left c fs) 0 ≡ [] → Finished ps (built (left c fs) 0)
     of_frames [] c e none = (is_laid c (flat c 0 []) refl, e ∙ ap (λ (d : Code). pieces d []) (sym (code_of-flat c)))
     of_frames (ends rest ∷ fs) c e none = absurd cc
+    of_frames (stops l rest ∷ fs) c e none = absurd cc
     of_frames (turns d rest ∷ fs) c e none = absurd cc
+    of_frames (cleans d rest ∷ fs) c e none = absurd cc
 
 module _ (ps : List Piece) (b : Building) where
   first : Stands ps [] b → b.at ≡ 0

@@ -1,12 +1,11 @@
 -- Names in C are names of functions, and keep apart the Scheme names that they are made of.
-use Rattle.std.proofs.Common.{◌≡◌, ℕ, zero, suc, ◌<◌, ◌≤◌, List, [], ◌∷◌, ◌++◌, Bool, true, false, refl, sym, ap, ◌∙◌, append_assoc, arith}
-use Rattle.std.specs.Prelude.{◌+◌, ◌/◌, ◌%◌, nat_lt, if◌then◌else◌, IsTrue}
-use Rattle.std.specs.List.{list_all}
-use Rattle.std.proofs.lemmas.Bool.{ltb-true, ltb-false, and_parts}
-use Rattle.std.proofs.lemmas.Bool.Decides.{nat_tests}
-use Rattle.scheme_data.specs.Symbols.{is_symbol_byte, IsSymbol}
-use Rattle.c_tree.specs.Names.{is_alphanumeric, hex_digit, mangled, function_name, maker_name, initializer_name, is_function_name}
-use Rattle.c_tree.proofs.NameShapes.{AreBytes, function_name-is_function_name, maker_name-is_function_name, initializer_name-is_function_name}
+use Rattle.std.proofs.Common.{◌≡◌, ℕ, ◌<◌, ◌≤◌, List, [], ◌∷◌, ◌++◌, Bool, true, false, codes, nat_eq, refl, sym, ap, ◌∙◌, append_assoc, arith}
+use Rattle.std.specs.Prelude.{◌+◌, ◌/◌, ◌%◌, nat_lt, if◌then◌else◌, ◌&&◌, IsTrue}
+use Rattle.std.specs.Cmp.Lexicographic.{same_text}
+use Rattle.std.proofs.lemmas.Bool.{ltb-true, ltb-false}
+use Rattle.scheme_data.specs.Symbols.{IsSymbol}
+use Rattle.c_tree.specs.Names.{is_alphanumeric, hex_digit, mangled, function_name, maker_name, initializer_name, is_mangled_symbol, is_symbol_or_number, is_of_module, is_prefixed, anything, is_entry_name, is_maker_name, is_initializer_name, is_function_name, is_maker, is_initializer, is_entry, is_main}
+use Rattle.c_tree.proofs.NameShapes.{function_name-is_function_name, maker_name-is_function_name, initializer_name-is_function_name}
 
 -- Digits ------------------------------------------------------------------------------------
 
@@ -68,21 +67,6 @@ mangled_same (a ∷ cs) (b ∷ ds) e =
     let first : a ≡ b = h.0 in
     let others : cs ≡ ds = mangled_same cs ds h.1 in cc
 
--- what stands behind the mangled front of a mangled text
-pub record Left (front whole rest : List ℕ) : Type 0 where
-  pub left : List ℕ
-  pub is : whole ≡ front ++ left
-  pub same : rest ≡ mangled left
-
-pub left_of : (front whole rest : List ℕ) → mangled front ++ rest ≡ mangled whole → Left front whole rest
-left_of [] whole rest e = record { left = whole; is = refl; same = e }
-left_of (a ∷ cs) [] rest e =
-    absurd (not_empty a (mangled cs ++ rest) (is_alphanumeric a) (sym e ∙ append_assoc (spelled (is_alphanumeric a) a) (mangled cs) rest))
-left_of (a ∷ cs) (b ∷ ds) rest e =
-    let h = heads a b (mangled cs ++ rest) (mangled ds) (is_alphanumeric a) (is_alphanumeric b) refl refl (sym (append_assoc (spelled (is_alphanumeric a) a) (mangled cs) rest) ∙ e) in
-    let l = left_of cs ds rest h.1 in
-    record { left = l.left; is = (λ i. sym h.0 i ∷ l.is i); same = l.same }
-
 -- two mangled texts, each ended by two underscores
 fronts : (m k xs ys : List ℕ) → mangled m ++ 95 ∷ 95 ∷ xs ≡ mangled k ++ 95 ∷ 95 ∷ ys → (m ≡ k) × (xs ≡ ys)
 fronts [] [] xs ys e = (refl, cc)
@@ -117,20 +101,66 @@ initializer_name_part m k e = mangled_same m k (cc e)
 
 -- Functions' names --------------------------------------------------------------------------
 
-symbol_small : (b : ℕ) → is_symbol_byte b ≡ true → b < 256
-symbol_small b e = grind (arith, nat_tests)
-
-symbols_are_bytes : (bs : List ℕ) → list_all is_symbol_byte bs ≡ true → AreBytes bs
-symbols_are_bytes [] e i = omega arith
-symbols_are_bytes (b ∷ bs) e zero = symbol_small b (and_parts (is_symbol_byte b) (list_all is_symbol_byte bs) e).0
-symbols_are_bytes (b ∷ bs) e (suc i) = symbols_are_bytes bs (and_parts (is_symbol_byte b) (list_all is_symbol_byte bs) e).1 i
-
 pub named_function : (m n : List ℕ) → IsSymbol m → IsSymbol n → IsTrue (is_function_name (function_name m n))
-named_function m n of_module of_function =
-    function_name-is_function_name m n of_module.some of_function.some (symbols_are_bytes m of_module.bytes) (symbols_are_bytes n of_function.bytes)
+named_function m n of_module of_function = function_name-is_function_name m n of_module of_function
 
 pub named_maker : (m : List ℕ) → IsSymbol m → IsTrue (is_function_name (maker_name m))
-named_maker m is = maker_name-is_function_name m is.some (symbols_are_bytes m is.bytes)
+named_maker m is = maker_name-is_function_name m is
 
 pub named_initializer : (m : List ℕ) → IsSymbol m → IsTrue (is_function_name (initializer_name m))
-named_initializer m is = initializer_name-is_function_name m is.some (symbols_are_bytes m is.bytes)
+named_initializer m is = initializer_name-is_function_name m is
+
+-- Kinds, by how names begin -----------------------------------------------------------------
+
+pub maker_is_maker : (m : List ℕ) → is_maker (maker_name m) ≡ true
+unfolding maker_name
+maker_is_maker m = refl
+
+pub initializer_is_initializer : (m : List ℕ) → is_initializer (initializer_name m) ≡ true
+unfolding initializer_name
+initializer_is_initializer m = refl
+
+-- neither a maker, nor an initialisation, nor an entry, nor `main`
+pub record IsPlainFunction (name : List ℕ) : Type 0 where
+  pub no_maker : is_maker name ≡ false
+  pub no_initializer : is_initializer name ≡ false
+  pub no_entry : is_entry name ≡ false
+  pub no_main : is_main name ≡ false
+
+pub function_is_plain : (m n : List ℕ) → IsPlainFunction (function_name m n)
+unfolding function_name
+function_is_plain m n = record { no_maker = refl; no_initializer = refl; no_entry = refl; no_main = refl }
+
+pub maker_is_else_nothing : (m : List ℕ) → (is_initializer (maker_name m) ≡ false) × (is_entry (maker_name m) ≡ false) × (is_main (maker_name m) ≡ false)
+unfolding maker_name
+maker_is_else_nothing m = (refl, refl, refl)
+
+pub initializer_is_else_nothing : (m : List ℕ) → (is_maker (initializer_name m) ≡ false) × (is_entry (initializer_name m) ≡ false) × (is_main (initializer_name m) ≡ false)
+unfolding initializer_name
+initializer_is_else_nothing m = (refl, refl, refl)
+
+pub main_is_else_nothing : (name : List ℕ) → is_main name ≡ true → (is_maker name ≡ false) × (is_initializer name ≡ false) × (is_entry name ≡ false)
+main_is_else_nothing name is = let same : name ≡ codes "main" = same_text name (codes "main") (sym is) in rw same (refl, refl, refl)
+
+-- a name of a kind begins as names of the kind do
+begins : (letter : ℕ) (is_rest : List ℕ → Bool) (word : List ℕ) → is_prefixed letter is_rest word ≡ true → is_prefixed letter anything word ≡ true
+begins letter is_rest [] is = absurd (cc)
+begins letter is_rest (a ∷ []) is = absurd (cc)
+begins letter is_rest (a ∷ b ∷ rest) is = by (nat_eq a letter) (nat_eq b 95) is
+  where
+    by : (x y : Bool) → (x && (y && is_rest rest)) ≡ true → (x && (y && true)) ≡ true
+    by true true q = refl
+    by true false q = absurd (cc)
+    by false y q = absurd (cc)
+
+pub maker_name_begins : (word : List ℕ) → is_maker_name word ≡ true → is_maker word ≡ true
+unfolding is_maker_name
+maker_name_begins word is = begins 99 is_mangled_symbol word is
+
+pub initializer_name_begins : (word : List ℕ) → is_initializer_name word ≡ true → is_initializer word ≡ true
+unfolding is_initializer_name
+initializer_name_begins word is = begins 105 is_mangled_symbol word is
+
+pub entry_name_begins : (word : List ℕ) → is_entry_name word ≡ true → is_entry word ≡ true
+unfolding is_entry_name
+entry_name_begins word is = begins 101 (is_of_module is_symbol_or_number) word is

@@ -1,104 +1,41 @@
 -- The names that are written are names, and other numbers have other names.
-use Rattle.std.proofs.Common.{◌≡◌, ℕ, suc, ◌/◌, ◌%◌, ◌<◌, ◌^◌, List, [], ◌∷◌, ◌++◌, length, get_or, refl, sym, ◌∙◌, ap, append_assoc, arith}
-use Rattle.std.specs.Prelude.{Bool, true, false, if◌then◌else◌, IsTrue, nat_lt, nat_le, ◌&&◌}
+use Rattle.std.proofs.Common.{◌≡◌, ℕ, ◌<◌, ◌^◌, List, [], ◌∷◌, ◌++◌, refl, ◌∙◌, ap, append_assoc, arith}
+use Rattle.std.specs.Prelude.{Bool, true, false, IsTrue, nat_lt, nat_le, ◌&&◌, ◌||◌}
 use Rattle.std.specs.List.{list_all}
 use Rattle.std.proofs.lemmas.Bool.Decides.{nat_tests}
 use Rattle.std.proofs.lemmas.Bool.{and_from}
-use Rattle.std.proofs.lemmas.List.{append-nil}
 use Rattle.scheme_data.specs.Decimal.{is_digit, decimal_text}
+use Rattle.scheme_data.specs.Symbols.{IsSymbol}
 use Rattle.scheme_data.proofs.NumberTexts.{IsNumeralText, decimal_text-IsNumeralText, decimal_text_injective}
-use Rattle.c_tree.specs.declared.names.NameState.{NameState}
-use Rattle.c_tree.specs.declared.names.NameState.TheVariants.{First, FirstEscape, InModule, ModuleEscape, ModuleHex, Second, InName, NameEscape, NameHex}
-use Rattle.c_tree.specs.Names.{is_alphanumeric, is_hex, hex_digit, mangled_byte, mangled, function_name, maker_name, initializer_name, after_byte, after_bytes, is_function_name, is_main, is_numeral, is_local_name, is_label_name, local_name, label_name}
+use Rattle.c_tree.specs.Names.{mangled, function_name, maker_name, initializer_name, is_mangled_symbol, is_symbol_or_number, is_cut, is_of_module, is_module_function, is_entry_name, is_maker_name, is_initializer_name, is_function_name, is_main, is_numeral, is_global_name, is_local_name, is_label_name, is_end_label_name, is_variable_name, is_target_name, local_name, label_name}
+use Rattle.c_tree.proofs.Cuts.{cut-mangled}
+use Rattle.c_tree.proofs.Unmangled.{mangled_symbol}
 
 -- Functions ---------------------------------------------------------------------------------
-
-is_hex-hex_digit : (d : ℕ) → d < 16 → is_hex (hex_digit d) ≡ true
-is_hex-hex_digit d small = grind (arith, nat_tests)
-
--- from plain, bytes of a mangled text lead to plain again
-record Passes (from plain escaped half : NameState) : Type 0 where
-  takes : (b : ℕ) → is_alphanumeric b ≡ true → after_byte from b ≡ plain
-  escapes : after_byte from 95 ≡ escaped
-  halves : (b : ℕ) → is_hex b ≡ true → after_byte escaped b ≡ half
-  closes : (b : ℕ) → is_hex b ≡ true → after_byte half b ≡ plain
-
-pass_at : (from plain escaped half : NameState) → Passes from plain escaped half → (b : ℕ) (rest : List ℕ) → b < 256 → (t : Bool) → is_alphanumeric b ≡ t
-    → after_bytes from ((if t then b ∷ [] else 95 ∷ hex_digit (b / 16) ∷ hex_digit (b % 16) ∷ []) ++ rest) ≡ after_bytes plain rest
-pass_at from plain escaped half p b rest small true e = ap (λ s. after_bytes s rest) (p.takes b e)
-pass_at from plain escaped half p b rest small false e =
-    let high = hex_digit (b / 16) in
-    let low = hex_digit (b % 16) in
-    ap (λ s. after_bytes (after_byte (after_byte s high) low) rest) p.escapes
-    ∙ ap (λ s. after_bytes (after_byte s low) rest) (p.halves high (is_hex-hex_digit (b / 16) (omega arith)))
-    ∙ ap (λ s. after_bytes s rest) (p.closes low (is_hex-hex_digit (b % 16) (omega arith)))
-
-pass_byte : (from plain escaped half : NameState) → Passes from plain escaped half → (b : ℕ) (rest : List ℕ) → b < 256
-    → after_bytes from (mangled_byte b ++ rest) ≡ after_bytes plain rest
-pass_byte from plain escaped half p b rest small = pass_at from plain escaped half p b rest small (is_alphanumeric b) refl
-
--- the items of a list of bytes
-abbrev pub AreBytes : List ℕ → Type 0
-AreBytes bs = (i : ℕ) → get_or bs i 0 < 256
-
-pass_all : (plain escaped half : NameState) → Passes plain plain escaped half → (bs rest : List ℕ) → AreBytes bs
-    → after_bytes plain (mangled bs ++ rest) ≡ after_bytes plain rest
-pass_all plain escaped half p [] rest small = refl
-pass_all plain escaped half p (b ∷ bs) rest small =
-    ap (after_bytes plain) (append_assoc (mangled_byte b) (mangled bs) rest)
-    ∙ pass_byte plain plain escaped half p b (mangled bs ++ rest) (small 0)
-    ∙ pass_all plain escaped half p bs rest (λ i. small (suc i))
-
-in_first : Passes First InModule FirstEscape ModuleHex
-in_first = record { takes = λ b e. rw e refl; escapes = refl; halves = λ b e. rw e refl; closes = λ b e. rw e refl }
-
-in_module : Passes InModule InModule ModuleEscape ModuleHex
-in_module = record { takes = λ b e. rw e refl; escapes = refl; halves = λ b e. rw e refl; closes = λ b e. rw e refl }
-
-in_second : Passes Second InName NameEscape NameHex
-in_second = record { takes = λ b e. rw e refl; escapes = refl; halves = λ b e. rw e refl; closes = λ b e. rw e refl }
-
-in_name : Passes InName InName NameEscape NameHex
-in_name = record { takes = λ b e. rw e refl; escapes = refl; halves = λ b e. rw e refl; closes = λ b e. rw e refl }
-
-name_ends : (n : List ℕ) → 0 < length n → AreBytes n → after_bytes Second (mangled n) ≡ InName
-name_ends [] some small = absurd (omega arith)
-name_ends (b ∷ bs) some small =
-    pass_byte Second InName NameEscape NameHex in_second b (mangled bs) (small 0)
-    ∙ ap (after_bytes InName) (sym (append-nil (mangled bs)))
-    ∙ pass_all InName NameEscape NameHex in_name bs [] (λ i. small (suc i))
-
-module_ends : (m rest : List ℕ) → 0 < length m → AreBytes m → after_bytes First (mangled m ++ 95 ∷ 95 ∷ rest) ≡ after_bytes Second rest
-module_ends [] rest some small = absurd (omega arith)
-module_ends (b ∷ bs) rest some small =
-    ap (after_bytes First) (append_assoc (mangled_byte b) (mangled bs) (95 ∷ 95 ∷ rest))
-    ∙ pass_byte First InModule FirstEscape ModuleHex in_first b (mangled bs ++ 95 ∷ 95 ∷ rest) (small 0)
-    ∙ pass_all InModule ModuleEscape ModuleHex in_module bs (95 ∷ 95 ∷ rest) (λ i. small (suc i))
 
 function_name_parts : (m n : List ℕ) → function_name m n ≡ 102 ∷ 95 ∷ (mangled m ++ 95 ∷ 95 ∷ mangled n)
 unfolding function_name
 function_name_parts m n = ap (λ bs. 102 ∷ 95 ∷ bs) (append_assoc (mangled m) (95 ∷ 95 ∷ []) (mangled n))
 
-pub function_name-is_function_name : (m n : List ℕ) → 0 < length m → 0 < length n → AreBytes m → AreBytes n → IsTrue (is_function_name (function_name m n))
-unfolding is_function_name
-function_name-is_function_name m n some_m some_n small_m small_n =
-    let ends : after_bytes First (mangled m ++ 95 ∷ 95 ∷ mangled n) ≡ InName = module_ends m (mangled n) some_m small_m ∙ name_ends n some_n small_n in
-    rw (function_name_parts m n) (rw ends refl)
+of_module : (is_name : List ℕ → Bool) (m rest : List ℕ) → IsSymbol m → is_name rest ≡ true → is_of_module is_name (mangled m ++ 95 ∷ 95 ∷ rest) ≡ true
+of_module is_name m rest is named =
+    ap (is_cut is_name) (cut-mangled m rest) ∙ and_from (is_mangled_symbol (mangled m)) (is_name rest) (mangled_symbol m is) named
 
-module_alone : (m : List ℕ) → 0 < length m → AreBytes m → after_bytes First (mangled m) ≡ InModule
-module_alone [] some small = absurd (omega arith)
-module_alone (b ∷ bs) some small =
-    pass_byte First InModule FirstEscape ModuleHex in_first b (mangled bs) (small 0)
-    ∙ ap (after_bytes InModule) (sym (append-nil (mangled bs)))
-    ∙ pass_all InModule ModuleEscape ModuleHex in_module bs [] (λ i. small (suc i))
+symbol_or_number : (n : List ℕ) → IsSymbol n → is_symbol_or_number (mangled n) ≡ true
+symbol_or_number n is = ap (λ b. b || is_numeral (mangled n)) (mangled_symbol n is)
 
-pub maker_name-is_function_name : (m : List ℕ) → 0 < length m → AreBytes m → IsTrue (is_function_name (maker_name m))
-unfolding is_function_name maker_name
-maker_name-is_function_name m some small = rw (module_alone m some small) refl
+pub function_name-is_function_name : (m n : List ℕ) → IsSymbol m → IsSymbol n → IsTrue (is_function_name (function_name m n))
+unfolding is_function_name is_module_function
+function_name-is_function_name m n of_m of_n =
+    rw (function_name_parts m n) (rw (of_module is_symbol_or_number m (mangled n) of_m (symbol_or_number n of_n)) refl)
 
-pub initializer_name-is_function_name : (m : List ℕ) → 0 < length m → AreBytes m → IsTrue (is_function_name (initializer_name m))
-unfolding is_function_name initializer_name
-initializer_name-is_function_name m some small = rw (module_alone m some small) refl
+pub maker_name-is_function_name : (m : List ℕ) → IsSymbol m → IsTrue (is_function_name (maker_name m))
+unfolding is_function_name is_module_function is_entry_name is_maker_name maker_name
+maker_name-is_function_name m is = rw (mangled_symbol m is) refl
+
+pub initializer_name-is_function_name : (m : List ℕ) → IsSymbol m → IsTrue (is_function_name (initializer_name m))
+unfolding is_function_name is_module_function is_entry_name is_maker_name is_initializer_name initializer_name
+initializer_name-is_function_name m is = rw (mangled_symbol m is) refl
 
 pub function_name_not_main : (m n : List ℕ) → is_main (function_name m n) ≡ false
 function_name_not_main m n = rw (function_name_parts m n) refl
@@ -125,6 +62,22 @@ is_local_name-local_name n small = is_numeral-decimal_text n small
 pub is_label_name-label_name : (n : ℕ) → n < 2 ^ 64 → IsTrue (is_label_name (label_name n))
 unfolding is_label_name label_name
 is_label_name-label_name n small = is_numeral-decimal_text n small
+
+pub local_name_is_variable : (x : List ℕ) → is_local_name x ≡ true → is_variable_name x ≡ true
+unfolding is_variable_name
+local_name_is_variable x is = ap (λ b. b || is_global_name x) is
+
+pub label_name_is_target : (x : List ℕ) → is_label_name x ≡ true → is_target_name x ≡ true
+unfolding is_target_name
+label_name_is_target x is = ap (λ b. b || is_end_label_name x) is
+
+pub end_label_name_is_target : (x : List ℕ) → is_end_label_name x ≡ true → is_target_name x ≡ true
+unfolding is_target_name
+end_label_name_is_target x is = by (is_label_name x)
+  where
+    by : (b : Bool) → (b || is_end_label_name x) ≡ true
+    by true = refl
+    by false = is
 
 pub local_name_injective : (m n : ℕ) → m < 2 ^ 64 → n < 2 ^ 64 → local_name m ≡ local_name n → m ≡ n
 unfolding local_name

@@ -1,29 +1,30 @@
 -- Names of operations, and primitives by their names.
 use Rattle.std.proofs.lemmas.List.{take-append-drop}
-use Rattle.std.proofs.Common.{◌≡◌, ℕ, zero, suc, ◌<◌, ◌≤◌, List, [], ◌∷◌, ◌++◌, length, take, drop, map, find, cond, codes, Bool, true, false, Option, Some, None, nat_eq, refl, sym, ap, ◌∙◌, arith}
-use Rattle.std.specs.Prelude.{IsTrue, nat_le, ◌&&◌, ◌||◌, not, slice_index_or}
-use Rattle.std.specs.List.{list_all, list_any, filter_map, cons_option}
-use Rattle.std.specs.Option.{option_map}
+use Rattle.std.proofs.lemmas.List.Folds.{find-append}
+use Rattle.std.proofs.Common.{◌≡◌, ℕ, List, [], ◌∷◌, ◌++◌, length, take, drop, map, find, cond, codes, Bool, true, false, Option, Some, None, nat_eq, refl, sym, ap, ◌∙◌}
+use Rattle.std.specs.Prelude.{◌&&◌, not}
+use Rattle.std.specs.List.{list_all}
+use Rattle.std.specs.Option.{option_map, option_or}
 use Rattle.std.specs.Cmp.Lexicographic.{pointwise, same_text}
-use Rattle.std.proofs.lemmas.Bool.{and_parts, or_parts, leb-true}
+use Rattle.std.proofs.lemmas.Bool.{and_parts}
 use Rattle.std.proofs.lemmas.Slice.Eq.{bytes_eq-Decides}
-use Rattle.prim_table.specs.declared.primitives.Primitive.{Primitive as TablePrimitive}
-use Rattle.prim_table.specs.Table as table
-use Rattle.scheme_data.specs.Names.{is_same, are_distinct}
-use Rattle.built_table.specs.declared.primitives.Primitive.{Primitive}
-use Rattle.built_table.proofs.BuiltList.{each_built}
-use Rattle.built_table.specs.Table.{primitives, name_of, built, built_of, prim_named}
+use Rattle.scheme_data.specs.Symbols.{is_symbol, IsSymbol}
+use Rattle.scheme_data.proofs.SymbolTests.{symbol_by_test}
+use Rattle.prim_table.specs.declared.primitives.Primitive.{Primitive}
+use Rattle.prim_table.specs.declared.primitives.Primitive.TheVariants as prim
+use Rattle.prim_table.specs.Table.{name_of, is_name, primitives, externs, prim_named, extern_named}
+use Rattle.c_tree.specs.declared.tree.CTy.TheVariants.{Obj, Long, Char, Int}
 use Rattle.c_tree.specs.declared.op.Op.{Op}
-use Rattle.c_tree.specs.declared.op.Op.TheVariants.{BoxLong, BoxBool, UnboxLong, Truth, Raise, Args, Status, Primitive as Does}
-use Rattle.c_tree.specs.Operations.{op_text, is_op, operations, op_named}
-use Rattle.c_tree.specs.Names.{mangled, are_bytes}
-use Rattle.c_tree.proofs.CNames.{mangled_same}
+use Rattle.c_tree.specs.declared.op.Op.TheVariants.{BoxLong, BoxChar, BoxBool, UnboxLong, UnboxChar, UnboxBool, CheckPair, CheckVector, CheckBstring, CheckSymbol, CheckProcedure, Truth, Closure, Env, Cell, Get, Put, Call, Str, Raise, Args, Status, Primitive as Does}
+use Rattle.c_tree.specs.Operations.{op_text, is_extern, own_operations, is_own_name, is_op, operations, op_named}
+use Rattle.c_tree.specs.Names.{mangled, unmangled, is_mangled_symbol}
+use Rattle.c_tree.proofs.Unmangled.{unmangled-is, unmangled_symbol, mangled_symbol}
 
 is_text : (word text : List ℕ) → pointwise nat_eq word text ≡ true → word ≡ text
 is_text word text e = same_text word text (sym e)
 
 -- tests of two names that decide the same
-pub same_test : (a b c d : List ℕ) → (a ≡ b → c ≡ d) → (c ≡ d → a ≡ b) → pointwise nat_eq a b ≡ pointwise nat_eq c d
+same_test : (a b c d : List ℕ) → (a ≡ b → c ≡ d) → (c ≡ d → a ≡ b) → pointwise nat_eq a b ≡ pointwise nat_eq c d
 same_test a b c d there back = go (pointwise nat_eq a b) (pointwise nat_eq c d) refl refl
   where
     go : (x y : Bool) → pointwise nat_eq a b ≡ x → pointwise nat_eq c d ≡ y → x ≡ y
@@ -36,103 +37,108 @@ pub behind_front : (word front rest : List ℕ) → pointwise nat_eq (take (leng
 behind_front word front rest same is named =
     sym (take-append-drop (length front) word) ∙ (λ i. is_text (take (length front) word) front same i ++ sym is i) ∙ ap (λ bs. bs ++ rest) named
 
--- Names that are no operation's ------------------------------------------------------------
-
--- a primitive's name is of bytes, and there is room for it
-abbrev pub has_room : Primitive → Bool
-has_room p = are_bytes (name_of p) && nat_le (length (name_of p)) 32
-
-all_have_room : list_all has_room primitives ≡ true
-all_have_room = refl
-
-none_of : (word : List ℕ) (ps : List Primitive) → list_all has_room ps ≡ true → ((p : Primitive) → has_room p ≡ true → word ≡ op_text (Does p) → ⊥) → None ≡ find (is_op word) (map Does ps)
-none_of word [] room others = refl
-none_of word (p ∷ ps) room others =
-    let r = and_parts (has_room p) (list_all has_room ps) room in
-    go (is_op word (Does p)) refl r.0 (none_of word ps r.1 others)
+-- among operations that are made of others
+found_map : {A : Type 0} (test : Op → Bool) (make : A → Op) (same : A → Bool) (xs : List A) → ((x : A) → test (make x) ≡ same x) → find test (map make xs) ≡ option_map make (find same xs)
+found_map test make same [] each = refl
+found_map test make same (x ∷ xs) each = go (same x) (each x) (found_map test make same xs each)
   where
-    go : (b : Bool) → is_op word (Does p) ≡ b → has_room p ≡ true → None ≡ find (is_op word) (map Does ps) → None ≡ cond b (Some (Does p)) (find (is_op word) (map Does ps))
-    go true e fits rest = absurd (others p fits (is_text word (op_text (Does p)) e))
-    go false e fits rest = rest
+    go : (b : Bool) → test (make x) ≡ b → find test (map make xs) ≡ option_map make (find same xs) → cond (test (make x)) (Some (make x)) (find test (map make xs)) ≡ option_map make (cond b (Some x) (find same xs))
+    go true e rest = ap (λ b. cond b (Some (make x)) (find test (map make xs))) e
+    go false e rest = ap (λ b. cond b (Some (make x)) (find test (map make xs))) e ∙ rest
+
+-- The three parts of the table --------------------------------------------------------------
+
+module _ (word : List ℕ) where
+  pub own_again : find (is_own_name word) own_operations ≡ find (is_op word) own_operations
+  own_again = refl
+
+  pub extern_again : option_map Does (extern_named word) ≡ find (is_op word) (map Does externs)
+  unfolding extern_named
+  extern_again = sym (found_map (is_op word) Does (λ p. is_op word (Does p)) externs (λ p. refl))
+
+  pub in_parts : op_named word ≡ option_or (find (is_op word) own_operations) (option_or (find (is_op word) (map Does primitives)) (find (is_op word) (map Does externs)))
+  unfolding op_named
+  in_parts =
+      find-append (is_op word) own_operations (map Does (primitives ++ externs))
+      ∙ ap (option_or (find (is_op word) own_operations)) (find-append (is_op word) (map Does primitives) (map Does externs))
+
+  abbrev of_own : Option Op
+  of_own = find (is_op word) own_operations
+
+  abbrev of_primitive : Option Op
+  of_primitive = find (is_op word) (map Does primitives)
+
+  abbrev of_extern : Option Op
+  of_extern = find (is_op word) (map Does externs)
+
+  pub by_own : (op : Op) → Some op ≡ of_own → Some op ≡ op_named word
+  by_own op e = sym (in_parts ∙ ap (λ o. option_or o (option_or of_primitive of_extern)) (sym e))
+
+  pub by_primitive : (op : Op) → None ≡ of_own → Some op ≡ of_primitive → Some op ≡ op_named word
+  by_primitive op none e = sym (in_parts ∙ ap (λ o. option_or o (option_or of_primitive of_extern)) (sym none) ∙ ap (λ o. option_or o of_extern) (sym e))
+
+  pub by_extern : None ≡ of_own → None ≡ of_primitive → of_extern ≡ op_named word
+  by_extern none none_too = sym (in_parts ∙ ap (λ o. option_or o (option_or of_primitive of_extern)) (sym none) ∙ ap (λ o. option_or o of_extern) (sym none_too))
+
+-- a primitive is no extern, and its name is a symbol
+abbrev pub is_mangled_so : Primitive → Bool
+is_mangled_so p = not (is_extern p) && is_symbol (name_of p)
+
+all_mangled_so : list_all is_mangled_so primitives ≡ true
+all_mangled_so = refl
+
+record MangledSo (p : Primitive) : Type 0 where
+  text : op_text (Does p) ≡ codes "bgl_p_" ++ mangled (name_of p)
+  symbol : IsSymbol (name_of p)
+
+mangled_so : (p : Primitive) → is_mangled_so p ≡ true → MangledSo p
+mangled_so p e =
+    let parts = and_parts (not (is_extern p)) (is_symbol (name_of p)) e in
+    record { text = by (is_extern p) parts.0; symbol = symbol_by_test (name_of p) parts.1 }
+  where
+    by : (b : Bool) → not b ≡ true → cond b (name_of p) (codes "bgl_p_" ++ mangled (name_of p)) ≡ codes "bgl_p_" ++ mangled (name_of p)
+    by true e = absurd (cc)
+    by false e = refl
+
+none_of : (word : List ℕ) (ps : List Primitive) → list_all is_mangled_so ps ≡ true → ((p : Primitive) → MangledSo p → word ≡ op_text (Does p) → ⊥) → None ≡ find (is_op word) (map Does ps)
+none_of word [] all others = refl
+none_of word (p ∷ ps) all others =
+    let r = and_parts (is_mangled_so p) (list_all is_mangled_so ps) all in
+    go (is_op word (Does p)) refl (mangled_so p r.0) (none_of word ps r.1 others)
+  where
+    go : (b : Bool) → is_op word (Does p) ≡ b → MangledSo p → None ≡ find (is_op word) (map Does ps) → None ≡ cond b (Some (Does p)) (find (is_op word) (map Does ps))
+    go true e so rest = absurd (others p so (is_text word (op_text (Does p)) e))
+    go false e so rest = rest
 
 pub no_primitive : (word : List ℕ) → ((rest : List ℕ) → word ≡ codes "bgl_p_" ++ rest → ⊥) → None ≡ find (is_op word) (map Does primitives)
-no_primitive word other = none_of word primitives all_have_room (λ p fits is. other (mangled (name_of p)) is)
+no_primitive word other = none_of word primitives all_mangled_so (λ p so is. other (mangled (name_of p)) (is ∙ so.text))
 
-pub not_mangled : (word rest : List ℕ) → word ≡ codes "bgl_p_" ++ rest → ((n : List ℕ) → IsTrue (are_bytes n) → length n ≤ 32 → rest ≡ mangled n → ⊥) → None ≡ find (is_op word) (map Does primitives)
+pub not_mangled : (word rest : List ℕ) → word ≡ codes "bgl_p_" ++ rest → is_mangled_symbol rest ≡ false → None ≡ find (is_op word) (map Does primitives)
 not_mangled word rest front none =
-    none_of word primitives all_have_room (λ p fits is.
-    let r = and_parts (are_bytes (name_of p)) (nat_le (length (name_of p)) 32) fits in
-    none (name_of p) r.0 (leb-true (length (name_of p)) 32 r.1) (cc (sym front ∙ is)))
-
--- Names of primitives ----------------------------------------------------------------------
-
--- what is built of a primitive has its name
-abbrev pub has_name : TablePrimitive → Option Primitive → Bool
-has_name q None = true
-has_name q (Some p) = pointwise nat_eq (name_of p) (table.name_of q)
-
-abbrev pub keeps_name : TablePrimitive → Bool
-keeps_name q = has_name q (built q)
-
-module _ (name : List ℕ) where
-  abbrev is_it : Primitive → Bool
-  is_it p = pointwise nat_eq name (name_of p)
-
-  abbrev of_built : List TablePrimitive → Option Primitive
-  of_built qs = find is_it (filter_map built qs)
-
-  same_answer : (q : TablePrimitive) (p : Primitive) → has_name q (Some p) ≡ true → is_it p ≡ table.is_name name q
-  same_answer q p same = ap (pointwise nat_eq name) (is_text (name_of p) (table.name_of q) same)
-
-  none_built : (qs : List TablePrimitive) → list_any (is_same name) (map table.name_of qs) ≡ false → list_all keeps_name qs ≡ true → None ≡ of_built qs
-  none_built [] other keep = refl
-  none_built (q ∷ qs) other keep =
-      let o = or_parts (is_same name (table.name_of q)) (list_any (is_same name) (map table.name_of qs)) other in
-      let k = and_parts (keeps_name q) (list_all keeps_name qs) keep in
-      go (built q) k.0 o.0 (none_built qs o.1 k.1)
-    where
-      go : (b : Option Primitive) → has_name q b ≡ true → table.is_name name q ≡ false → None ≡ of_built qs → None ≡ find is_it (cons_option b (filter_map built qs))
-      go None same differs rest = rest
-      go (Some p) same differs rest = rest ∙ sym (ap (λ b. cond b (Some p) (of_built qs)) (same_answer q p same ∙ differs))
-
-  -- of distinct names the first that is built is that of the first
-  found_built : (qs : List TablePrimitive) → are_distinct (map table.name_of qs) ≡ true → list_all keeps_name qs ≡ true → of_built qs ≡ built_of (find (table.is_name name) qs)
-  found_built [] distinct keep = refl
-  found_built (q ∷ qs) distinct keep =
-      let d = and_parts (not (list_any (is_same (table.name_of q)) (map table.name_of qs))) (are_distinct (map table.name_of qs)) distinct in
-      let k = and_parts (keeps_name q) (list_all keeps_name qs) keep in
-      go (built q) (table.is_name name q) refl k.0 refl (λ is. none_built qs (ap (λ n. list_any (is_same n) (map table.name_of qs)) (is_text name (table.name_of q) is) ∙ not_true (list_any (is_same (table.name_of q)) (map table.name_of qs)) d.0) k.1) (found_built qs d.1 k.1)
-    where
-      not_true : (b : Bool) → not b ≡ true → b ≡ false
-      not_true true e = sym e
-      not_true false e = refl
-
-      go : (b : Option Primitive) (t : Bool) → b ≡ built q → has_name q b ≡ true → table.is_name name q ≡ t → (t ≡ true → None ≡ of_built qs) → of_built qs ≡ built_of (find (table.is_name name) qs)
-          → find is_it (cons_option b (filter_map built qs)) ≡ built_of (cond t (Some q) (find (table.is_name name) qs))
-      go None true here same e none rest = sym (none refl) ∙ here
-      go None false here same e none rest = rest
-      go (Some p) true here same e none rest = ap (λ b. cond b (Some p) (of_built qs)) (same_answer q p same ∙ e) ∙ here
-      go (Some p) false here same e none rest = ap (λ b. cond b (Some p) (of_built qs)) (same_answer q p same ∙ e) ∙ rest
-
-  pub found_primitive : find is_it primitives ≡ prim_named name
-  unfolding prim_named table.prim_named
-  found_primitive = found_built table.primitives refl refl
+    none_of word primitives all_mangled_so (λ p so is.
+    let same : rest ≡ mangled (name_of p) = cc (sym front ∙ is ∙ so.text) in
+    let bad : false ≡ true = sym none ∙ ap is_mangled_symbol same ∙ mangled_symbol (name_of p) so.symbol in
+    absurd (cc))
 
 -- a word of a mangled name is that of the primitive of this name
-pub named_primitive : (word rest name : List ℕ) → word ≡ codes "bgl_p_" ++ rest → rest ≡ mangled name → find (is_op word) (map Does primitives) ≡ option_map Does (prim_named name)
-named_primitive word rest name front is = each primitives ∙ ap (option_map Does) (found_primitive name)
+pub named_primitive : (word rest name : List ℕ) → word ≡ codes "bgl_p_" ++ rest → unmangled rest ≡ Some name → find (is_op word) (map Does primitives) ≡ option_map Does (prim_named name)
+unfolding prim_named
+named_primitive word rest name front read = each primitives all_mangled_so
   where
-    one : (p : Primitive) → is_op word (Does p) ≡ pointwise nat_eq name (name_of p)
-    one p =
-        let here : word ≡ codes "bgl_p_" ++ mangled name = front ∙ ap (λ bs. codes "bgl_p_" ++ bs) is in
-        same_test word (op_text (Does p)) name (name_of p) (λ e. mangled_same name (name_of p) (cc (sym here ∙ e))) (λ e. here ∙ ap (λ n. codes "bgl_p_" ++ mangled n) e)
+    one : (p : Primitive) → MangledSo p → is_op word (Does p) ≡ is_name name p
+    one p so =
+        same_test word (op_text (Does p)) name (name_of p)
+        (λ e. (let same : rest ≡ mangled (name_of p) = cc (sym front ∙ e ∙ so.text) in let known : Some name ≡ Some (name_of p) = sym read ∙ ap unmangled same ∙ unmangled_symbol (name_of p) so.symbol in cc))
+        (λ e. front ∙ ap (λ bs. codes "bgl_p_" ++ bs) (unmangled-is rest name read ∙ ap mangled e) ∙ sym so.text)
 
-    each : (ps : List Primitive) → find (is_op word) (map Does ps) ≡ option_map Does (find (λ p. pointwise nat_eq name (name_of p)) ps)
-    each [] = refl
-    each (p ∷ ps) = go (pointwise nat_eq name (name_of p)) (one p) (each ps)
+    each : (ps : List Primitive) → list_all is_mangled_so ps ≡ true → find (is_op word) (map Does ps) ≡ option_map Does (find (is_name name) ps)
+    each [] all = refl
+    each (p ∷ ps) all =
+        let r = and_parts (is_mangled_so p) (list_all is_mangled_so ps) all in
+        go (is_name name p) (one p (mangled_so p r.0)) (each ps r.1)
       where
-        go : (b : Bool) → is_op word (Does p) ≡ b → find (is_op word) (map Does ps) ≡ option_map Does (find (λ p. pointwise nat_eq name (name_of p)) ps)
-            → cond (is_op word (Does p)) (Some (Does p)) (find (is_op word) (map Does ps)) ≡ option_map Does (cond b (Some p) (find (λ p. pointwise nat_eq name (name_of p)) ps))
+        go : (b : Bool) → is_op word (Does p) ≡ b → find (is_op word) (map Does ps) ≡ option_map Does (find (is_name name) ps)
+            → cond (is_op word (Does p)) (Some (Does p)) (find (is_op word) (map Does ps)) ≡ option_map Does (cond b (Some p) (find (is_name name) ps))
         go true e rest = ap (λ b. cond b (Some (Does p)) (find (is_op word) (map Does ps))) e
         go false e rest = ap (λ b. cond b (Some (Does p)) (find (is_op word) (map Does ps))) e ∙ rest
 
@@ -150,44 +156,117 @@ pub op_named-is : (word : List ℕ) (op : Op) → op_named word ≡ Some op → 
 unfolding op_named
 op_named-is word op e = is_text word (op_text op) (found (is_op word) operations op e)
 
-name_among : (ps : List Primitive) (p : Primitive) (i : ℕ) → i < length ps → slice_index_or ps i p ≡ p → list_any (is_same (name_of p)) (map name_of ps) ≡ true
-name_among [] p i within is = absurd (omega arith)
-name_among (q ∷ qs) p zero within is = ap (λ b. b || list_any (is_same (name_of p)) (map name_of qs)) ((bytes_eq-Decides (name_of p) (name_of q)).1 (ap name_of (sym is)))
-name_among (q ∷ qs) p (suc i) within is = by (is_same (name_of p) (name_of q)) (name_among qs p i (omega arith) is)
-  where
-    by : (b : Bool) → list_any (is_same (name_of p)) (map name_of qs) ≡ true → (b || list_any (is_same (name_of p)) (map name_of qs)) ≡ true
-    by true there = refl
-    by false there = there
-
--- of distinct names each finds its own primitive
-finds_own : (ps : List Primitive) (p : Primitive) (i : ℕ) → are_distinct (map name_of ps) ≡ true → i < length ps → slice_index_or ps i p ≡ p → find (λ q. pointwise nat_eq (name_of p) (name_of q)) ps ≡ Some p
-finds_own [] p i distinct within is = absurd (omega arith)
-finds_own (q ∷ qs) p zero distinct within is =
-    ap (λ b. cond b (Some q) (find (λ q. pointwise nat_eq (name_of p) (name_of q)) qs)) ((bytes_eq-Decides (name_of p) (name_of q)).1 (ap name_of (sym is))) ∙ ap Some is
-finds_own (q ∷ qs) p (suc i) distinct within is =
-    let d = and_parts (not (list_any (is_same (name_of q)) (map name_of qs))) (are_distinct (map name_of qs)) distinct in
-    by (pointwise nat_eq (name_of p) (name_of q)) refl d.0 (finds_own qs p i d.1 (omega arith) is)
-  where
-    by : (b : Bool) → pointwise nat_eq (name_of p) (name_of q) ≡ b → not (list_any (is_same (name_of q)) (map name_of qs)) ≡ true
-        → find (λ q. pointwise nat_eq (name_of p) (name_of q)) qs ≡ Some p → cond b (Some q) (find (λ q. pointwise nat_eq (name_of p) (name_of q)) qs) ≡ Some p
-    by true e other rest =
-        let there : list_any (is_same (name_of q)) (map name_of qs) ≡ true = ap (λ n. list_any (is_same n) (map name_of qs)) (sym (is_text (name_of p) (name_of q) e)) ∙ name_among qs p i (omega arith) is in
-        let none : false ≡ true = sym (ap not there) ∙ other in absurd (cc)
-    by false e other rest = rest
-
-named_again : (p : Primitive) → prim_named (name_of p) ≡ Some p
-named_again p = sym (found_primitive (name_of p)) ∙ (let c = each_built p in finds_own primitives p c.0 refl c.1 c.2)
-
 pub op_named-op_text : (op : Op) → op_named (op_text op) ≡ Some op
 unfolding op_named
 op_named-op_text BoxLong = refl
+op_named-op_text BoxChar = refl
 op_named-op_text BoxBool = refl
 op_named-op_text UnboxLong = refl
+op_named-op_text UnboxChar = refl
+op_named-op_text UnboxBool = refl
+op_named-op_text CheckPair = refl
+op_named-op_text CheckVector = refl
+op_named-op_text CheckBstring = refl
+op_named-op_text CheckSymbol = refl
+op_named-op_text CheckProcedure = refl
 op_named-op_text Truth = refl
+op_named-op_text Closure = refl
+op_named-op_text Env = refl
+op_named-op_text Cell = refl
+op_named-op_text (Get Obj) = refl
+op_named-op_text (Get Long) = refl
+op_named-op_text (Get Char) = refl
+op_named-op_text (Get Int) = refl
+op_named-op_text (Put Obj) = refl
+op_named-op_text (Put Long) = refl
+op_named-op_text (Put Char) = refl
+op_named-op_text (Put Int) = refl
+op_named-op_text Call = refl
+op_named-op_text Str = refl
 op_named-op_text Raise = refl
 op_named-op_text Args = refl
 op_named-op_text Status = refl
-op_named-op_text (Does p) = named_primitive (op_text (Does p)) (mangled (name_of p)) (name_of p) refl refl ∙ ap (option_map Does) (named_again p)
+op_named-op_text (Does prim.Add) = refl
+op_named-op_text (Does prim.Subtract) = refl
+op_named-op_text (Does prim.Multiply) = refl
+op_named-op_text (Does prim.AddFixnum) = refl
+op_named-op_text (Does prim.SubtractFixnum) = refl
+op_named-op_text (Does prim.MultiplyFixnum) = refl
+op_named-op_text (Does prim.Quotient) = refl
+op_named-op_text (Does prim.Remainder) = refl
+op_named-op_text (Does prim.Modulo) = refl
+op_named-op_text (Does prim.Equal) = refl
+op_named-op_text (Does prim.Less) = refl
+op_named-op_text (Does prim.Greater) = refl
+op_named-op_text (Does prim.LessOrEqual) = refl
+op_named-op_text (Does prim.GreaterOrEqual) = refl
+op_named-op_text (Does prim.EqualFixnum) = refl
+op_named-op_text (Does prim.LessFixnum) = refl
+op_named-op_text (Does prim.GreaterFixnum) = refl
+op_named-op_text (Does prim.LessOrEqualFixnum) = refl
+op_named-op_text (Does prim.GreaterOrEqualFixnum) = refl
+op_named-op_text (Does prim.IsZero) = refl
+op_named-op_text (Does prim.IsEven) = refl
+op_named-op_text (Does prim.IsOdd) = refl
+op_named-op_text (Does prim.Not) = refl
+op_named-op_text (Does prim.IsNull) = refl
+op_named-op_text (Does prim.IsPair) = refl
+op_named-op_text (Does prim.IsVector) = refl
+op_named-op_text (Does prim.IsString) = refl
+op_named-op_text (Does prim.IsSymbol) = refl
+op_named-op_text (Does prim.IsChar) = refl
+op_named-op_text (Does prim.IsBoolean) = refl
+op_named-op_text (Does prim.IsInteger) = refl
+op_named-op_text (Does prim.IsProcedure) = refl
+op_named-op_text (Does prim.IsEofObject) = refl
+op_named-op_text (Does prim.IsList) = refl
+op_named-op_text (Does prim.IsSame) = refl
+op_named-op_text (Does prim.IsEquivalent) = refl
+op_named-op_text (Does prim.Cons) = refl
+op_named-op_text (Does prim.Car) = refl
+op_named-op_text (Does prim.Cdr) = refl
+op_named-op_text (Does prim.SetCar) = refl
+op_named-op_text (Does prim.SetCdr) = refl
+op_named-op_text (Does prim.Cadr) = refl
+op_named-op_text (Does prim.Cddr) = refl
+op_named-op_text (Does prim.Caddr) = refl
+op_named-op_text (Does prim.Length) = refl
+op_named-op_text (Does prim.Append) = refl
+op_named-op_text (Does prim.Reverse) = refl
+op_named-op_text (Does prim.Memq) = refl
+op_named-op_text (Does prim.Assq) = refl
+op_named-op_text (Does prim.MakeVector) = refl
+op_named-op_text (Does prim.VectorLength) = refl
+op_named-op_text (Does prim.VectorRef) = refl
+op_named-op_text (Does prim.VectorSet) = refl
+op_named-op_text (Does prim.CharToInteger) = refl
+op_named-op_text (Does prim.IntegerToChar) = refl
+op_named-op_text (Does prim.CharEqual) = refl
+op_named-op_text (Does prim.CharLess) = refl
+op_named-op_text (Does prim.MakeString) = refl
+op_named-op_text (Does prim.StringLength) = refl
+op_named-op_text (Does prim.StringRef) = refl
+op_named-op_text (Does prim.StringEqual) = refl
+op_named-op_text (Does prim.StringLess) = refl
+op_named-op_text (Does prim.StringAppend) = refl
+op_named-op_text (Does prim.Substring) = refl
+op_named-op_text (Does prim.NumberToString) = refl
+op_named-op_text (Does prim.StringToNumber) = refl
+op_named-op_text (Does prim.SymbolToString) = refl
+op_named-op_text (Does prim.Display) = refl
+op_named-op_text (Does prim.Write) = refl
+op_named-op_text (Does prim.Newline) = refl
+op_named-op_text (Does prim.WriteChar) = refl
+op_named-op_text (Does prim.ReadChar) = refl
+op_named-op_text (Does prim.PeekChar) = refl
+op_named-op_text (Does prim.Error) = refl
+op_named-op_text (Does prim.List) = refl
+op_named-op_text (Does prim.BitAnd) = refl
+op_named-op_text (Does prim.BitOr) = refl
+op_named-op_text (Does prim.BitXor) = refl
+op_named-op_text (Does prim.BitNot) = refl
+op_named-op_text (Does prim.BitShiftLeft) = refl
+op_named-op_text (Does prim.BitShiftRight) = refl
 
 -- what holds of each operation of the list holds of any
 pub every_operation : (f : Op → Bool) → list_all f operations ≡ true → (op : Op) → f op ≡ true

@@ -14,6 +14,13 @@ pub data Code : Type 0 where
   test : CExpr → Code → Code → Code → Code
   -- a label, the block of the `for`, what follows
   loop : List ℕ → Code → Code → Code
+  -- a block, the label behind it, what follows
+  ended : Code → List ℕ → Code → Code
+  goto : List ℕ → Code → Code
+  -- the locals for the exit and for what an escape carries, the block, what follows
+  catch : List ℕ → List ℕ → Code → Code → Code
+  -- a block, the block that is done however the first was left, what follows
+  protect : Code → Code → Code → Code
 
 -- a definition of a function
 pub record Fun : Type 0 where
@@ -24,5 +31,7 @@ pub record Fun : Type 0 where
   pub code : Code
 
 pub data Item : Type 0 where
+  external : CVar → Item
+  global : CVar → Item
   declared : CTy → List ℕ → List CTy → Item
   defined : Fun → Item

@@ -3,7 +3,7 @@ use Rattle.std.specs.Prelude.{◌≡◌, ℕ, suc, ◌+◌, List, [], ◌∷◌,
 use Rattle.c_tree.specs.declared.tree.CBlock.{CBlock}
 use Rattle.c_tree.specs.declared.tree.CStmt.{CStmt}
 use Rattle.c_tree.specs.declared.tree.CStmt.TheVariants as stmt
-use Rattle.c_tree.specs.Code.{Code, done, assign, call, return, test, loop}
+use Rattle.c_tree.specs.Code.{Code, done, assign, call, return, test, loop, ended, goto, catch, protect}
 
 -- how many statements there are
 abbrev pub size : Code → ℕ
@@ -13,6 +13,10 @@ size (call c rest) = suc (size rest)
 size (return e rest) = suc (size rest)
 size (test e a b rest) = suc (size a + (size b + size rest))
 size (loop l body rest) = suc (size body + size rest)
+size (ended body l rest) = suc (size body + size rest)
+size (goto l rest) = suc (size rest)
+size (catch k r body rest) = suc (size body + size rest)
+size (protect a b rest) = suc (size a + (size b + size rest))
 
 abbrev pub block : ℕ → ℕ → CBlock
 block first end = record { first = first; end = end }
@@ -28,6 +32,14 @@ flat (test e a b rest) at others =
     ∷ flat a (suc at) (flat b (suc at + size a) (flat rest (suc at + size a + size b) others))
 flat (loop l body rest) at others =
     stmt.Loop l (block (suc at) (suc at + size body)) ∷ flat body (suc at) (flat rest (suc at + size body) others)
+flat (ended body l rest) at others =
+    stmt.Ended (block (suc at) (suc at + size body)) l ∷ flat body (suc at) (flat rest (suc at + size body) others)
+flat (goto l rest) at others = stmt.Goto l ∷ flat rest (suc at) others
+flat (catch k r body rest) at others =
+    stmt.Catch k r (block (suc at) (suc at + size body)) ∷ flat body (suc at) (flat rest (suc at + size body) others)
+flat (protect a b rest) at others =
+    stmt.Protect (block (suc at) (suc at + size a)) (block (suc at + size a) (suc at + size a + size b))
+    ∷ flat a (suc at) (flat b (suc at + size a) (flat rest (suc at + size a + size b) others))
 
 -- a statement, where the code of each range behind it is known, and what follows it to the end of its block
 abbrev pub code_with : (ℕ → ℕ → Code) → CStmt → ℕ → ℕ → Code
@@ -36,6 +48,10 @@ code_with from (stmt.Call c) next end = call c (from next end)
 code_with from (stmt.Return e) next end = return e (from next end)
 code_with from (stmt.If e p q) next end = test e (from p.first p.end) (from q.first q.end) (from q.end end)
 code_with from (stmt.Loop l p) next end = loop l (from p.first p.end) (from p.end end)
+code_with from (stmt.Ended p l) next end = ended (from p.first p.end) l (from p.end end)
+code_with from (stmt.Goto l) next end = goto l (from next end)
+code_with from (stmt.Catch k r p) next end = catch k r (from p.first p.end) (from p.end end)
+code_with from (stmt.Protect p q) next end = protect (from p.first p.end) (from q.first q.end) (from q.end end)
 
 -- the code of a range of places, of statements of which the first stands at a place
 abbrev pub code_from : ℕ → List CStmt → ℕ → ℕ → Code

@@ -1,9 +1,16 @@
--- The tokens of a C text, each as long as possible. Spaces and line ends may stand between them.
+-- The tokens of a C text, each as long as possible. Spaces, line ends and comments may stand between them.
 use Rattle.std.specs.Prelude.{ℕ, zero, suc, ◌+◌, ◌-◌, ◌*◌, List, [], ◌∷◌, nat_le, nat_lt, nat_eq, Bool, ◌&&◌, ◌||◌, not, if◌then◌else◌, Option, Some, None}
 use Rattle.std.specs.List.{prefix_len, take_while}
-use Rattle.c_tree.specs.declared.tree.Token.{Token}
-use Rattle.c_tree.specs.declared.tree.Token.TheVariants.{Word, Mark, Str, Bad}
+use Rattle.scheme_data.specs.declared.datum.Place.{Place}
+use Rattle.scheme_data.specs.Places.{after, start}
 use Rattle.c_tree.specs.Names.{is_alphanumeric}
+
+-- a run of letters, digits and `_`, or a minus sign and one; a mark of one byte; the bytes that a string stands for; or what begins no token
+pub data Token : Type 0 where
+  Word : List ℕ → Token
+  Mark : ℕ → Token
+  Str : List ℕ → Token
+  Bad : Token
 
 abbrev pub is_space : ℕ → Bool
 is_space b = nat_eq b 32 || nat_eq b 10
@@ -64,10 +71,32 @@ quoted_from skip [] = None
 quoted_from (suc skip) (b ∷ bs) = quoted_from skip bs
 quoted_from zero (b ∷ bs) = if nat_eq b 34 then Some (record { bytes = []; size = 1 }) else spelled_then (spelled_at b bs) (λ skip. quoted_from skip bs)
 
--- what stands at the front: white space, or a token, with the number of its bytes after the first
+-- how many bytes a comment has after its `/*`, to the first `*/` and with it; none where it doesn't end
+abbrev pub one_more : Option ℕ → Option ℕ
+one_more None = None
+one_more (Some n) = Some (suc n)
+
+-- after a byte that belongs to the comment
+abbrev pub comment_from : ℕ → List ℕ → Option ℕ
+comment_from last [] = None
+comment_from last (b ∷ bs) = if nat_eq last 42 && nat_eq b 47 then Some 1 else one_more (comment_from b bs)
+
+abbrev pub comment_len : List ℕ → Option ℕ
+comment_len bs = comment_from 0 bs
+
+-- what stands at the front: white space or a comment, or a token, with the number of its bytes after the first
 pub data Lexeme : Type 0 where
-  Gap : Lexeme
+  Gap : ℕ → Lexeme
   Lexed : Token → ℕ → Lexeme
+
+abbrev pub gap_of : Option ℕ → Lexeme
+gap_of None = Lexed Bad 0
+gap_of (Some n) = Gap (suc n)
+
+-- a comment begins with `/` and `*`
+abbrev pub comment_lexeme : List ℕ → Lexeme
+comment_lexeme [] = Lexed Bad 0
+comment_lexeme (b ∷ bs) = if nat_eq b 42 then gap_of (comment_len bs) else Lexed Bad 0
 
 abbrev pub string_lexeme : Option Quoted → Lexeme
 string_lexeme None = Lexed Bad 0
@@ -79,15 +108,16 @@ signed_lexeme bs = if nat_eq (prefix_len is_word_byte bs) 0 then Lexed Bad 0 els
 
 unfoldable pub lexeme : ℕ → List ℕ → Lexeme
 lexeme b bs =
-    if is_space b then Gap
+    if is_space b then Gap 0
     else (if is_word_byte b then Lexed (Word (b ∷ take_while is_word_byte bs)) (prefix_len is_word_byte bs)
     else (if nat_eq b 45 then signed_lexeme bs
     else (if is_mark b then Lexed (Mark b) 0
     else (if nat_eq b 34 then string_lexeme (quoted_from 0 bs)
-    else Lexed Bad 0))))
+    else (if nat_eq b 47 then comment_lexeme bs
+    else Lexed Bad 0)))))
 
 abbrev pub emit : Lexeme → (ℕ → List Token) → List Token
-emit Gap next = next 0
+emit (Gap size) next = next size
 emit (Lexed t size) next = t ∷ next size
 
 -- the tokens of the bytes, of which the first to skip belong to what began before
@@ -98,3 +128,26 @@ tokens_from zero (b ∷ bs) = emit (lexeme b bs) (λ skip. tokens_from skip bs)
 
 abbrev pub tokens : List ℕ → List Token
 tokens bytes = tokens_from 0 bytes
+
+-- Places ------------------------------------------------------------------------------------
+
+-- a token with the place of its first byte
+pub record Placed : Type 0 where
+  pub at : Place
+  pub token : Token
+
+abbrev pub placed : Place → Token → Placed
+placed at t = record { at = at; token = t }
+
+abbrev pub emit_at : Place → Lexeme → (ℕ → List Placed) → List Placed
+emit_at at (Gap size) next = next size
+emit_at at (Lexed t size) next = placed at t ∷ next size
+
+abbrev pub placed_from : ℕ → Place → List ℕ → List Placed
+placed_from skip at [] = []
+placed_from (suc skip) at (b ∷ bs) = placed_from skip (after at b) bs
+placed_from zero at (b ∷ bs) = emit_at at (lexeme b bs) (λ skip. placed_from skip (after at b) bs)
+
+-- the same tokens, each with its place
+abbrev pub placed_tokens : List ℕ → List Placed
+placed_tokens bytes = placed_from 0 start bytes

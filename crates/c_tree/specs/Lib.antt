@@ -1,10 +1,12 @@
 pub mod Code
+pub mod Faults
 pub mod Functions
 pub mod Layout
 pub mod Lexical
 pub mod Names
 pub mod Operations
 pub mod Pieces
+pub mod Reading
 pub mod Rows
 pub mod Spelling
 pub mod Steps

@@ -8,7 +8,7 @@ use Rattle.c_tree.specs.declared.pieces.Piece.TheVariants as piece
 use Rattle.c_tree.specs.declared.pieces.PieceRef.{PieceRef}
 use Rattle.c_tree.specs.declared.pieces.PieceRef.TheVariants as shown
 use Rattle.c_tree.specs.declared.laying.Layout.{Layout}
-use Rattle.c_tree.specs.Code.{Code, done, assign, call, return, test, loop}
+use Rattle.c_tree.specs.Code.{Code, done, assign, call, return, test, loop, ended, goto, catch, protect}
 use Rattle.c_tree.specs.Layout.{code_of}
 
 -- the pieces of code, in front of others
@@ -19,6 +19,10 @@ pieces (call c rest) others = piece.Call c ∷ pieces rest others
 pieces (return e rest) others = piece.Return e ∷ pieces rest others
 pieces (test e a b rest) others = piece.If e ∷ pieces a (piece.Else ∷ pieces b (piece.End ∷ pieces rest others))
 pieces (loop l body rest) others = piece.Loop l ∷ pieces body (piece.End ∷ pieces rest others)
+pieces (ended body l rest) others = piece.Begin ∷ pieces body (piece.Ended l ∷ pieces rest others)
+pieces (goto l rest) others = piece.Goto l ∷ pieces rest others
+pieces (catch k r body rest) others = piece.Catch k r ∷ pieces body (piece.End ∷ pieces rest others)
+pieces (protect a b rest) others = piece.Protect ∷ pieces a (piece.Cleanup ∷ pieces b (piece.End ∷ pieces rest others))
 
 -- a statement without what is in its blocks
 abbrev pub opening : CStmt → Piece
@@ -27,10 +31,16 @@ opening (stmt.Call c) = piece.Call c
 opening (stmt.Return e) = piece.Return e
 opening (stmt.If e p q) = piece.If e
 opening (stmt.Loop l p) = piece.Loop l
+opening (stmt.Ended p l) = piece.Begin
+opening (stmt.Goto l) = piece.Goto l
+opening (stmt.Catch k r p) = piece.Catch k r
+opening (stmt.Protect p q) = piece.Protect
 
 abbrev pub piece_of : PieceRef → Piece
 piece_of (shown.Statement s) = opening s.now
 piece_of shown.Else = piece.Else
+piece_of (shown.Ended l) = piece.Ended l.now
+piece_of shown.Cleanup = piece.Cleanup
 piece_of shown.End = piece.End
 
 -- a list has these pieces, or they are those of no code

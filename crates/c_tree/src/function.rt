@@ -15,9 +15,13 @@ pub struct CFun {
     pub ghost laid: { IsLaid stmts body },
 }
 
-/// A declaration or a definition of a function.
+/// A declaration or a definition of a global or a function.
 #[derive(Drop, Debug)]
 pub enum CItem {
+    /// A global that is defined elsewhere or further on.
+    Extern(CVar),
+    /// A global.
+    Global(CVar),
     Declared(CTy, Text, List<CTy>),
     Defined(CFun),
 }

@@ -7,7 +7,6 @@ mod function;
 mod laying;
 mod name_tests;
 mod name_texts;
-mod names;
 mod op;
 mod op_names;
 mod order;
@@ -20,16 +19,16 @@ mod walk;
 pub use function::{CFun, CItem, CProgram, CUnit};
 pub use laying::Layout;
 pub use name_tests::{
-    names_function, names_initializer, names_label, names_local, names_main, names_maker,
-    tells_alphanumeric,
+    begins_as_entry, begins_as_initializer, begins_as_maker, names_end_label, names_entry,
+    names_function, names_global, names_label, names_local, names_main, names_symbol, names_target,
+    names_variable, tells_alphanumeric,
 };
 pub use name_texts::{
     function_name_text, initializer_name_text, label_name_text, local_name_text, maker_name_text,
 };
-pub use names::NameState;
 pub use op::{Op, Wants};
 pub use op_names::op_by_name;
 pub use order::{lay_out, pieces_in};
 pub use pieces::{Piece, PieceRef};
 pub use plain::is_plain;
-pub use tree::{CArg, CAtom, CBlock, CCall, CExpr, CStmt, CTy, CVar, Callee, Token};
+pub use tree::{CArg, CAtom, CBlock, CCall, CExpr, CStmt, CTy, CVar, Callee};

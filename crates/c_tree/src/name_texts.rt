@@ -1,12 +1,14 @@
 // The texts of names.
-ghost use Rattle.std.specs.Prelude.{◌≡◌, ◌++◌, ◌<◌, length, IfOk, OnOk, IsTrue};
+ghost use Rattle.std.specs.Prelude.{◌≡◌, ◌++◌, ◌<◌, IfOk, OnOk, IsTrue};
+ghost use Rattle.scheme_data.specs.Symbols.{IsSymbol};
 ghost use Rattle.c_tree.specs.Names.{hex_digit, mangled, mangled_byte, is_alphanumeric, function_name, maker_name, initializer_name, is_function_name, local_name, label_name};
 
 use crate::name_tests::tells_alphanumeric;
 use scheme_data::{OutOfMemory, Text, push_number};
 use std::alloc::Global;
 
-pub fn hex_byte(n: u8) -> u8
+// A hexadecimal digit.
+fn hex_byte(n: u8) -> u8
     requires { n < 16 }
     ensures { result ≡ hex_digit n }
 {
@@ -40,7 +42,7 @@ pub fn function_name_text(
 ) -> Result<Text, OutOfMemory>
     ensures value { IfOk result (λ t. t ≡ function_name module_name.now name.now) }
     ensures named { IfOk result (λ t.
-        0 < length module_name.now → 0 < length name.now → IsTrue (is_function_name t)) }
+        IsSymbol module_name.now → IsSymbol name.now → IsTrue (is_function_name t)) }
 {
     let mut text = Text::from_bytes(alloc, b"f_")?;
     push_mangled(&mut text, module_name)?;
@@ -53,7 +55,7 @@ pub fn function_name_text(
 #[tactic(auto, unfolding(crate::specs::Names::maker_name))]
 pub fn maker_name_text(alloc: Global, module_name: &[u8]) -> Result<Text, OutOfMemory>
     ensures value { IfOk result (λ t. t ≡ maker_name module_name.now) }
-    ensures named { IfOk result (λ t. 0 < length module_name.now → IsTrue (is_function_name t)) }
+    ensures named { IfOk result (λ t. IsSymbol module_name.now → IsTrue (is_function_name t)) }
 {
     let mut text = Text::from_bytes(alloc, b"c_")?;
     push_mangled(&mut text, module_name)?;
@@ -64,7 +66,7 @@ pub fn maker_name_text(alloc: Global, module_name: &[u8]) -> Result<Text, OutOfM
 #[tactic(auto, unfolding(crate::specs::Names::initializer_name))]
 pub fn initializer_name_text(alloc: Global, module_name: &[u8]) -> Result<Text, OutOfMemory>
     ensures value { IfOk result (λ t. t ≡ initializer_name module_name.now) }
-    ensures named { IfOk result (λ t. 0 < length module_name.now → IsTrue (is_function_name t)) }
+    ensures named { IfOk result (λ t. IsSymbol module_name.now → IsTrue (is_function_name t)) }
 {
     let mut text = Text::from_bytes(alloc, b"i_")?;
     push_mangled(&mut text, module_name)?;

@@ -18,12 +18,18 @@ fn weight(piece: &Piece) -> u64
 {
     match piece {
         Piece::Else => 0,
+        Piece::Ended(_) => 0,
+        Piece::Cleanup => 0,
         Piece::End => 0,
         Piece::Assign(_, _) => 1,
         Piece::Call(_) => 1,
         Piece::Return(_) => 1,
+        Piece::Goto(_) => 1,
         Piece::If(_) => 1,
         Piece::Loop(_) => 1,
+        Piece::Begin => 1,
+        Piece::Catch(_, _) => 1,
+        Piece::Protect => 1,
     }
 }
 

@@ -10,11 +10,12 @@ pub enum CTy {
     Int,
 }
 
-/// An atom: a number, a local by its name, or a constant.
+/// An atom: a number, a local or a global by its name, a symbol by the name of its atom, or a constant.
 #[derive(Drop, Debug)]
 pub enum CAtom {
     Int(i64),
     Name(Text),
+    Sym(Text),
     False,
     True,
     Nil,
@@ -22,11 +23,12 @@ pub enum CAtom {
     Eof,
 }
 
-/// An argument of a call. A string is kept as the bytes that it stands for.
+/// An argument of a call. A string is kept as the bytes that it stands for. `Entry` is the address of an entry, `&` and its name.
 #[derive(Drop, Debug)]
 pub enum CArg {
     Atom(CAtom),
     Str(Text),
+    Entry(Text),
 }
 
 /// What is called: a function by its name, or an operation.
@@ -60,11 +62,20 @@ pub struct CBlock {
 /// A statement. Blocks are ranges in the list in which the statement stands.
 #[derive(Drop, Debug)]
 pub enum CStmt {
+    /// To a local or a global.
     Assign(Text, CExpr),
     Call(CCall),
     Return(CExpr),
     If(CExpr, CBlock, CBlock),
+    /// A label and the block of its `for`.
     Loop(Text, CBlock),
+    /// A block and the label behind it.
+    Ended(CBlock, Text),
+    Goto(Text),
+    /// The locals for the exit and for what an escape to it carries, and the block that it leaves.
+    Catch(Text, Text, CBlock),
+    /// A block, and the block that is done however the first was left.
+    Protect(CBlock, CBlock),
 }
 
 /// A variable with its type.
@@ -72,13 +83,4 @@ pub enum CStmt {
 pub struct CVar {
     pub ty: CTy,
     pub name: Text,
-}
-
-/// A token of a C text: a run of letters, digits and `_`, a mark of one byte, the bytes that a string stands for, or a byte that begins no token.
-#[derive(Drop, Debug)]
-pub enum Token {
-    Word(Text),
-    Mark(u8),
-    Str(Text),
-    Bad,
 }
