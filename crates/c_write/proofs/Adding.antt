@@ -6,9 +6,7 @@ use Rattle.std.proofs.Math.Numerals.{one-add}
 use Rattle.std.proofs.lemmas.Bool.{and_parts}
 use Rattle.std.proofs.lemmas.Bool.Decides.{nat_tests}
 use Rattle.std.proofs.lemmas.List.{append-nil}
-use Rattle.c_tree.specs.declared.tree.Token.{Token}
-use Rattle.c_tree.specs.declared.tree.Token.TheVariants.{Word, Mark, Bad}
-use Rattle.c_tree.specs.Lexical.{tokens, tokens_from, lexeme, Gap, Lexed, emit, is_word_byte, is_space, is_mark}
+use Rattle.c_tree.specs.Lexical.{Token, Word, Mark, Bad, tokens, tokens_from, lexeme, Gap, Lexed, emit, is_word_byte, is_space, is_mark}
 use Rattle.c_write.specs.Adds.{Follow, anything, apart, begins_apart, MayFollow, Ends, Adds, is_run, is_word}
 
 -- One after another -------------------------------------------------------------------------
@@ -55,7 +53,7 @@ adds_from before after old new text f e follows spelled = record {
 gap_apart : (b : ℕ) → is_space b ≡ true → not (is_word_byte b) ≡ true
 gap_apart b h = grind (arith, nat_tests)
 
-lexeme_gap : (b : ℕ) (rest : List ℕ) → is_space b ≡ true → lexeme b rest ≡ Gap
+lexeme_gap : (b : ℕ) (rest : List ℕ) → is_space b ≡ true → lexeme b rest ≡ Gap 0
 unfolding lexeme
 lexeme_gap b rest h = rw h refl
 

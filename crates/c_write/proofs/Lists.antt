@@ -1,20 +1,18 @@
 -- Lists written item by item.
 use Rattle.std.proofs.Common.{◌≡◌, ℕ, zero, suc, ◌+◌, ◌<◌, ◌≤◌, List, [], ◌∷◌, ◌++◌, length, take, get_or, refl, sym, ◌∙◌, ap, subst, arith}
 use Rattle.std.specs.Prelude.{IsTrue, map}
-use Rattle.c_tree.specs.Lexical.{tokens}
 use Rattle.std.proofs.lemmas.List.{take_more, take_all}
 use Rattle.c_tree.specs.declared.tree.CTy.{CTy}
 use Rattle.c_tree.specs.declared.tree.CArg.{CArg}
 use Rattle.c_tree.specs.declared.tree.CVar.{CVar}
 use Rattle.c_tree.specs.declared.pieces.PieceRef.{PieceRef}
 use Rattle.c_tree.specs.declared.function.CItem.{CItem}
-use Rattle.c_tree.specs.declared.tree.Token.{Token}
-use Rattle.c_tree.specs.declared.tree.Token.TheVariants.{Word, Mark}
+use Rattle.c_tree.specs.Lexical.{Token, Word, Mark, tokens}
 use Rattle.c_tree.specs.Names.{is_local_name}
 use Rattle.c_tree.specs.Code.{Code}
 use Rattle.c_tree.specs.Functions.{item_of, items_of}
 use Rattle.c_tree.specs.Pieces.{pieces, piece_of}
-use Rattle.c_tree.specs.Spelling.{code_tokens, piece_tokens, pieces_tokens, more_arguments, argument_token, more_types, more_params, type_text, local_tokens, item_tokens, items_tokens, NamedArgument, NamedArguments, NamedCode, NamedPiece, NamedPieces, NamedVars, NamedItem, NamedItems}
+use Rattle.c_tree.specs.Spelling.{code_tokens, piece_tokens, pieces_tokens, more_arguments, argument_tokens_of, more_types, more_params, type_text, local_tokens, item_tokens, items_tokens, NamedArgument, NamedArguments, NamedCode, NamedPiece, NamedPieces, NamedVars, NamedItem, NamedItems}
 use Rattle.c_tree.proofs.Spelled.{pieces_spelled, named_pieces}
 use Rattle.c_write.specs.Adds.{Follow, anything, Adds}
 use Rattle.c_write.proofs.Adding.{adds_both, tokens_all}
@@ -56,7 +54,7 @@ item_at Named P parts (y ∷ ys) (suc i) x named within is = item_at Named P par
 
 pub more_arguments-append : (xs ys : List CArg) (ts : List Token) → more_arguments (xs ++ ys) ts ≡ more_arguments xs (more_arguments ys ts)
 more_arguments-append [] ys ts = refl
-more_arguments-append (x ∷ xs) ys ts = ap (λ us. Mark 44 ∷ argument_token x ∷ us) (more_arguments-append xs ys ts)
+more_arguments-append (x ∷ xs) ys ts = ap (λ us. Mark 44 ∷ argument_tokens_of x us) (more_arguments-append xs ys ts)
 
 pub more_types-append : (xs ys : List CTy) (ts : List Token) → more_types (xs ++ ys) ts ≡ more_types xs (more_types ys ts)
 more_types-append [] ys ts = refl

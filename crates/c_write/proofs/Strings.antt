@@ -2,8 +2,7 @@
 use Rattle.std.proofs.Common.{◌≡◌, ℕ, suc, ◌+◌, ◌/◌, ◌%◌, ◌<◌, List, [], ◌∷◌, ◌++◌, length, get_or, refl, sym, ◌∙◌, ap, append_assoc, arith, Fits, w8}
 use Rattle.std.specs.Prelude.{Bool, true, false, if◌then◌else◌, ◌||◌, nat_eq, Some, None}
 use Rattle.std.proofs.lemmas.Bool.Decides.{nat_tests}
-use Rattle.c_tree.specs.declared.tree.Token.TheVariants.{Str}
-use Rattle.c_tree.specs.Lexical.{tokens, tokens_from, lexeme, emit, string_lexeme, is_plain, is_octal, is_coded, octal_value, escape_at, spelled_at, onto_quoted, spelled_then, quoted_from}
+use Rattle.c_tree.specs.Lexical.{Str, tokens, tokens_from, lexeme, emit, string_lexeme, is_plain, is_octal, is_coded, octal_value, escape_at, spelled_at, onto_quoted, spelled_then, quoted_from}
 use Rattle.c_write.specs.Adds.{anything, apart, Adds}
 use Rattle.c_write.specs.Escapes.{escaped_byte, escaped}
 use Rattle.c_write.proofs.Adding.{adds_from, skip_all}

@@ -1,8 +1,7 @@
 -- What is added to a text, token by token.
 use Rattle.std.specs.Prelude.{◌≡◌, ℕ, List, [], ◌∷◌, ◌++◌, nat_eq, Bool, true, false, ◌&&◌, ◌||◌, not, IsTrue}
 use Rattle.std.specs.List.{list_all}
-use Rattle.c_tree.specs.declared.tree.Token.{Token}
-use Rattle.c_tree.specs.Lexical.{tokens, is_word_byte}
+use Rattle.c_tree.specs.Lexical.{Token, tokens, is_word_byte}
 
 -- what may follow a text: anything, or only what stands apart, since a word would go on
 pub data Follow : Type 0 where

@@ -1,8 +1,8 @@
 // Declarations and definitions.
 ghost use Rattle.std.specs.Prelude.{◌∷◌, OnOk, IsTrue};
-ghost use Rattle.c_tree.specs.declared.tree.Token.TheVariants.{Word, Mark};
-ghost use Rattle.c_tree.specs.Names.{is_function_name, is_local_name};
-ghost use Rattle.c_tree.specs.Code.{declared, defined};
+ghost use Rattle.c_tree.specs.Lexical.{Word, Mark};
+ghost use Rattle.c_tree.specs.Names.{is_function_name, is_global_name, is_local_name};
+ghost use Rattle.c_tree.specs.Code.{external, global, declared, defined};
 ghost use Rattle.c_tree.specs.Functions.{fun_of, item_of, items_of};
 ghost use Rattle.c_tree.specs.Spelling.{type_text, more_types, type_tokens, more_params, param_tokens, local_tokens, item_tokens, items_tokens, NamedVars, NamedItem, NamedItems};
 ghost use Rattle.c_write.specs.Adds.{Adds, anything, apart};
@@ -132,11 +132,35 @@ fn put_definition(alloc: Global, out: &mut Text, function: &CFun) -> Result<(), 
     Ok(())
 }
 
+// A global and the end of its line.
+fn put_global(out: &mut Text, variable: &CVar) -> Result<(), OutOfMemory>
+    requires { IsTrue (is_global_name variable.now.name) }
+    ensures { OnOk result (Adds anything anything out.old out.new (item_tokens (global variable.now))) }
+{
+    put_type(out, variable.ty)?;
+    put_space(out)?;
+    put_name(out, &variable.name)?;
+    put_end(out)?;
+    Ok(())
+}
+
+fn put_external(out: &mut Text, variable: &CVar) -> Result<(), OutOfMemory>
+    requires { IsTrue (is_global_name variable.now.name) }
+    ensures { OnOk result (Adds anything anything out.old out.new (item_tokens (external variable.now))) }
+{
+    put_word(out, b"extern")?;
+    put_space(out)?;
+    put_global(out, variable)?;
+    Ok(())
+}
+
 fn put_item(alloc: Global, out: &mut Text, item: &CItem) -> Result<(), OutOfMemory>
     requires { NamedItem (item_of item.now) }
     ensures { OnOk result (Adds anything anything out.old out.new (item_tokens (item_of item.now))) }
 {
     match item {
+        CItem::Extern(variable) => put_external(out, variable),
+        CItem::Global(variable) => put_global(out, variable),
         CItem::Declared(ty, name, params) => put_declaration(out, *ty, name, params.as_slice()),
         CItem::Defined(function) => put_definition(alloc, out, function),
     }

@@ -1,7 +1,6 @@
 // The smallest parts of a C text.
 ghost use Rattle.std.specs.Prelude.{◌∷◌, OnOk, IsTrue};
-ghost use Rattle.c_tree.specs.declared.tree.Token.TheVariants.{Word, Mark};
-ghost use Rattle.c_tree.specs.Lexical.{is_mark};
+ghost use Rattle.c_tree.specs.Lexical.{Word, Mark, is_mark};
 ghost use Rattle.c_write.specs.Adds.{Adds, anything, apart, is_word};
 
 use scheme_data::{OutOfMemory, Text};
@@ -77,6 +76,15 @@ pub fn put_end(out: &mut Text) -> Result<(), OutOfMemory>
     ensures { OnOk result (Adds apart anything out.old out.new (λ ts. Mark 59 ∷ ts)) }
 {
     put_mark(out, b';')?;
+    put_line_end(out)?;
+    Ok(())
+}
+
+/// `{` and a line end.
+pub fn begin_block(out: &mut Text) -> Result<(), OutOfMemory>
+    ensures { OnOk result (Adds anything anything out.old out.new (λ ts. Mark 123 ∷ ts)) }
+{
+    put_mark(out, b'{')?;
     put_line_end(out)?;
     Ok(())
 }

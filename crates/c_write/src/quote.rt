@@ -1,6 +1,6 @@
 // Strings in a C text.
 ghost use Rattle.std.specs.Prelude.{◌≡◌, ◌++◌, ◌∷◌, OnOk};
-ghost use Rattle.c_tree.specs.declared.tree.Token.TheVariants.{Str};
+ghost use Rattle.c_tree.specs.Lexical.{Str};
 ghost use Rattle.c_write.specs.Adds.{Adds, anything, apart};
 ghost use Rattle.c_write.specs.Escapes.{escaped_byte, escaped};
 

@@ -2,15 +2,17 @@
 ghost use Rattle.std.specs.Prelude.{◌∷◌, OnOk, IsTrue, codes};
 ghost use Rattle.scheme_data.specs.Decimal.{number_text};
 ghost use Rattle.scheme_data.specs.Fixnum.{IsFixnum};
-ghost use Rattle.c_tree.specs.declared.tree.Token.TheVariants.{Word, Mark};
-ghost use Rattle.c_tree.specs.declared.pieces.Piece.TheVariants.{If, Loop};
-ghost use Rattle.c_tree.specs.Names.{is_label_name, is_local_name};
+ghost use Rattle.c_tree.specs.Lexical.{Word, Mark};
+ghost use Rattle.c_tree.specs.declared.pieces.Piece.TheVariants.{If, Loop, Begin, Goto, Catch, Protect};
+ghost use Rattle.c_tree.specs.Names.{is_entry_name, is_label_name, is_target_name, is_local_name, is_variable_name, is_symbol_name};
 ghost use Rattle.c_tree.specs.Operations.{op_text};
 ghost use Rattle.c_tree.specs.Pieces.{opening};
-ghost use Rattle.c_tree.specs.Spelling.{atom_text, argument_token, more_arguments, argument_tokens, callee_text, call_tokens, expr_tokens, piece_tokens, NamedAtom, NamedArgument, NamedArguments, NamedCallee, NamedCall, NamedExpr, NamedPiece};
+ghost use Rattle.c_tree.specs.Spelling.{atom_text, argument_tokens_of, more_arguments, argument_tokens, callee_text, call_tokens, expr_tokens, piece_tokens, NamedAtom, NamedArgument, NamedArguments, NamedCallee, NamedCall, NamedExpr, NamedPiece};
 ghost use Rattle.c_write.specs.Adds.{Adds, anything, apart};
 
-use crate::put::{open_block, put_comma, put_end, put_mark, put_name, put_space, put_word};
+use crate::put::{
+    begin_block, open_block, put_comma, put_end, put_mark, put_name, put_space, put_word,
+};
 use crate::quote::put_string;
 use c_tree::{CArg, CAtom, CCall, CExpr, CStmt, Callee, Op};
 use scheme_data::{OutOfMemory, Text, push_number};
@@ -23,13 +25,28 @@ fn put_number(out: &mut Text, n: i64) -> Result<(), OutOfMemory>
     Ok(())
 }
 
+fn put_variable(out: &mut Text, name: &Text) -> Result<(), OutOfMemory>
+    requires { IsTrue (is_variable_name name.now) }
+    ensures { OnOk result (Adds anything apart out.old out.new (λ ts. Word name.now ∷ ts)) }
+{
+    put_name(out, name)
+}
+
+fn put_symbol(out: &mut Text, name: &Text) -> Result<(), OutOfMemory>
+    requires { IsTrue (is_symbol_name name.now) }
+    ensures { OnOk result (Adds anything apart out.old out.new (λ ts. Word name.now ∷ ts)) }
+{
+    put_name(out, name)
+}
+
 fn put_atom(out: &mut Text, atom: &CAtom) -> Result<(), OutOfMemory>
     requires { NamedAtom atom.now }
     ensures { OnOk result (Adds anything apart out.old out.new (λ ts. Word (atom_text atom.now) ∷ ts)) }
 {
     match atom {
         CAtom::Int(n) => put_number(out, *n),
-        CAtom::Name(name) => put_name(out, name),
+        CAtom::Name(name) => put_variable(out, name),
+        CAtom::Sym(name) => put_symbol(out, name),
         CAtom::False => put_word(out, b"BGL_FALSE"),
         CAtom::True => put_word(out, b"BGL_TRUE"),
         CAtom::Nil => put_word(out, b"BGL_NIL"),
@@ -38,13 +55,24 @@ fn put_atom(out: &mut Text, atom: &CAtom) -> Result<(), OutOfMemory>
     }
 }
 
+// The address of an entry.
+fn put_entry(out: &mut Text, name: &Text) -> Result<(), OutOfMemory>
+    requires { IsTrue (is_entry_name name.now) }
+    ensures { OnOk result (Adds anything apart out.old out.new (λ ts. Mark 38 ∷ Word name.now ∷ ts)) }
+{
+    put_mark(out, b'&')?;
+    put_name(out, name)?;
+    Ok(())
+}
+
 fn put_argument(out: &mut Text, argument: &CArg) -> Result<(), OutOfMemory>
     requires { NamedArgument argument.now }
-    ensures { OnOk result (Adds anything apart out.old out.new (λ ts. argument_token argument.now ∷ ts)) }
+    ensures { OnOk result (Adds anything apart out.old out.new (argument_tokens_of argument.now)) }
 {
     match argument {
         CArg::Atom(atom) => put_atom(out, atom),
         CArg::Str(text) => put_string(out, text.as_bytes()),
+        CArg::Entry(name) => put_entry(out, name),
     }
 }
 
@@ -110,11 +138,11 @@ fn put_expr(out: &mut Text, expr: &CExpr) -> Result<(), OutOfMemory>
 }
 
 fn put_assignment(out: &mut Text, name: &Text, expr: &CExpr) -> Result<(), OutOfMemory>
-    requires { IsTrue (is_local_name name.now) × NamedExpr expr.now }
+    requires { IsTrue (is_variable_name name.now) × NamedExpr expr.now }
     ensures { OnOk result (Adds anything anything out.old out.new
         (λ ts. Word name.now ∷ Mark 61 ∷ expr_tokens expr.now (Mark 59 ∷ ts))) }
 {
-    put_name(out, name)?;
+    put_variable(out, name)?;
     put_space(out)?;
     put_mark(out, b'=')?;
     put_space(out)?;
@@ -185,6 +213,40 @@ fn put_loop(out: &mut Text, label: &Text) -> Result<(), OutOfMemory>
     Ok(())
 }
 
+fn put_goto(out: &mut Text, label: &Text) -> Result<(), OutOfMemory>
+    requires { IsTrue (is_target_name label.now) }
+    ensures { OnOk result (Adds anything anything out.old out.new (piece_tokens (Goto label.now))) }
+{
+    put_word(out, b"goto")?;
+    put_space(out)?;
+    put_name(out, label)?;
+    put_end(out)?;
+    Ok(())
+}
+
+// `BGL_CATCH`, the locals for the exit and for what an escape carries, and where the block begins.
+fn put_catch(out: &mut Text, exit: &Text, carried: &Text) -> Result<(), OutOfMemory>
+    requires { IsTrue (is_local_name exit.now) × IsTrue (is_local_name carried.now) }
+    ensures { OnOk result (Adds anything anything out.old out.new (piece_tokens (Catch exit.now carried.now))) }
+{
+    put_word(out, b"BGL_CATCH")?;
+    put_mark(out, b'(')?;
+    put_name(out, exit)?;
+    put_comma(out)?;
+    put_name(out, carried)?;
+    put_mark(out, b')')?;
+    open_block(out)?;
+    Ok(())
+}
+
+fn put_protect(out: &mut Text) -> Result<(), OutOfMemory>
+    ensures { OnOk result (Adds anything anything out.old out.new (piece_tokens Protect)) }
+{
+    put_word(out, b"BGL_PROTECT")?;
+    open_block(out)?;
+    Ok(())
+}
+
 /// A line of the statement, without what is in its blocks.
 pub fn put_statement(out: &mut Text, statement: &CStmt) -> Result<(), OutOfMemory>
     requires { NamedPiece (opening statement.now) }
@@ -196,5 +258,9 @@ pub fn put_statement(out: &mut Text, statement: &CStmt) -> Result<(), OutOfMemor
         CStmt::Return(expr) => put_return(out, expr),
         CStmt::If(condition, _, _) => put_if(out, condition),
         CStmt::Loop(label, _) => put_loop(out, label),
+        CStmt::Ended(_, _) => begin_block(out),
+        CStmt::Goto(label) => put_goto(out, label),
+        CStmt::Catch(exit, carried, _) => put_catch(out, exit, carried),
+        CStmt::Protect(_, _) => put_protect(out),
     }
 }
