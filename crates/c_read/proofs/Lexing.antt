@@ -1,36 +1,40 @@
 -- One byte on in a text, and in a string.
-use Rattle.std.proofs.Common.{◌≡◌, ℕ, zero, suc, ◌+◌, ◌-◌, ◌<◌, List, [], ◌∷◌, ◌++◌, length, drop, get_or, Bool, true, false, if◌then◌else◌, nat_eq, Option, Some, None, refl, sym, ap, ◌∙◌, append_assoc, add_assoc, arith}
-use Rattle.std.proofs.lemmas.List.{drop_more}
-use Rattle.c_tree.specs.declared.tree.Token.{Token}
-use Rattle.c_tree.specs.declared.tree.Token.TheVariants.{Bad}
-use Rattle.c_tree.specs.Lexical.{Quoted, spelled_at, onto_quoted, spelled_then, quoted_from, Lexeme, lexeme, emit, tokens_from}
+use Rattle.std.proofs.Common.{◌≡◌, ℕ, zero, suc, ◌+◌, ◌-◌, ◌<◌, ◌≤◌, List, [], ◌∷◌, ◌++◌, length, drop, take, get_or, true, false, if◌then◌else◌, ◌&&◌, nat_eq, Option, Some, None, refl, sym, ap, ◌∙◌, append_assoc, add_assoc, arith}
+use Rattle.std.proofs.lemmas.List.{drop_more, length-drop}
+use Rattle.std.specs.List.{prefix_len}
+use Rattle.c_tree.specs.Lexical.{Token, Word, is_space, is_word_byte, comment_from, one_more, Quoted, spelled_at, onto_quoted, spelled_then, quoted_from, Gap, Lexed, lexeme, emit, tokens_from, tokens}
 use Rattle.c_read.specs.declared.lex.StringByte.{StringByte}
-use Rattle.c_read.specs.Scans.{quoted_onto, spelled_of, is_bad, has_bad}
+use Rattle.c_read.specs.Scans.{quoted_onto, comment_onto, spelled_of, size_in, size_onto, lexeme_at}
 
 -- Tokens
 
-pub skipped : (bytes : List ℕ) (i skip : ℕ) → i < length bytes → 0 < skip → tokens_from skip (drop i bytes) ≡ tokens_from (skip - 1) (drop (i + 1) bytes)
-skipped bytes i zero h p = absurd (omega arith)
-skipped bytes i (suc k) h p =
-    let e : k ≡ suc k - 1 = omega arith in
-    ap (tokens_from (suc k)) (drop_more bytes i 0 h) ∙ ap (λ k. tokens_from k (drop (i + 1) bytes)) e
+skip_all : (skip : ℕ) (bytes : List ℕ) → tokens_from skip bytes ≡ tokens_from 0 (drop skip bytes)
+skip_all zero bytes = refl
+skip_all (suc k) [] = refl
+skip_all (suc k) (b ∷ bs) = skip_all k bs
 
-pub scanned : (bytes : List ℕ) (i skip : ℕ) (s : Lexeme) → i < length bytes → skip ≡ 0 → s ≡ lexeme (get_or bytes i 0) (drop (i + 1) bytes)
-    → tokens_from skip (drop i bytes) ≡ emit s (λ k. tokens_from k (drop (i + 1) bytes))
-scanned bytes i skip s h z e =
-    ap (λ k. tokens_from k (drop i bytes)) z ∙ ap (tokens_from 0) (drop_more bytes i 0 h)
-    ∙ ap (λ s. emit s (λ k. tokens_from k (drop (i + 1) bytes))) (sym e)
+behind_first : (b : ℕ) (bs : List ℕ) (more : ℕ) → drop (1 + more) (b ∷ bs) ≡ drop more bs
+behind_first b bs more = let e : 1 + more ≡ suc more = omega arith in ap (λ n. drop n (b ∷ bs)) e
 
-pub bad_within : (front rest : List Token) → has_bad (front ++ Bad ∷ rest) ≡ true
-bad_within [] rest = refl
-bad_within (t ∷ front) rest = go (is_bad t) refl (bad_within front rest)
-  where
-    go : (b : Bool) → is_bad t ≡ b → has_bad (front ++ Bad ∷ rest) ≡ true → (if b then true else has_bad (front ++ Bad ∷ rest)) ≡ true
-    go true e h = refl
-    go false e h = h
+pub no_longer : (text rest : List ℕ) (n : ℕ) → rest ≡ drop n text → length rest ≤ length text
+no_longer text rest n r = omega (arith, ap length r, length-drop n text)
 
-pub one_token : (found : List Token) (t : Token) (rest : List Token) → found ++ t ∷ rest ≡ (found ++ t ∷ []) ++ rest
-one_token found t rest = sym (append_assoc found (t ∷ []) rest)
+pub word_lexeme : (text : List ℕ) (first : ℕ) (rest : List ℕ) (more : ℕ) → text ≡ first ∷ rest → more ≡ prefix_len is_word_byte rest → is_space first ≡ false → is_word_byte first ≡ true
+    → Lexed (Word (take (1 + more) text)) more ≡ lexeme first rest
+unfolding lexeme
+word_lexeme text first rest more t m s w =
+    let e : 1 + more ≡ suc more = omega arith in
+    let word : take (1 + more) text ≡ first ∷ take more rest = ap (take (1 + more)) t ∙ ap (λ n. take n (first ∷ rest)) e in
+    ap (λ bs. Lexed (Word bs) more) word ∙ ap (λ n. Lexed (Word (first ∷ take n rest)) n) m
+    ∙ rw (s, w) refl
+
+pub over_gap : (text rest : List ℕ) (more : ℕ) → 0 < length text → Gap more ≡ lexeme_at text → rest ≡ drop (1 + more) text → tokens rest ≡ tokens text
+over_gap [] rest more h e r = absurd (omega arith)
+over_gap (b ∷ bs) rest more h e r = ap tokens (r ∙ behind_first b bs more) ∙ sym (skip_all more bs) ∙ ap (λ s. emit s (λ k. tokens_from k bs)) e
+
+pub one_token : (text rest : List ℕ) (t : Token) (more : ℕ) → 0 < length text → Lexed t more ≡ lexeme_at text → rest ≡ drop (1 + more) text → t ∷ tokens rest ≡ tokens text
+one_token [] rest t more h e r = absurd (omega arith)
+one_token (b ∷ bs) rest t more h e r = ap (λ bs. t ∷ tokens bs) (r ∙ behind_first b bs more) ∙ ap (λ ts. t ∷ ts) (sym (skip_all more bs)) ∙ ap (λ s. emit s (λ k. tokens_from k bs)) e
 
 -- Strings
 
@@ -65,3 +69,47 @@ quote_coded rest bytes i skip p h z ne e =
     ∙ ap (λ c. quoted_onto bytes (i + skip) (if c then Some (record { bytes = []; size = 1 }) else spelled_then (spelled_at b bs) (λ k. quoted_from k bs))) (sym ne)
     ∙ ap (λ ts. quoted_onto bytes (i + skip) (quoted_from 0 ts)) (sym (drop_more rest i 0 h))
     ∙ ap (λ k. quoted_onto bytes (i + skip) (quoted_from k (drop i rest))) (sym z)
+
+size_of_onto : (bytes : List ℕ) (n : ℕ) (o : Option Quoted) → size_in (quoted_onto bytes n o) ≡ size_onto n o
+size_of_onto bytes n None = refl
+size_of_onto bytes n (Some q) = refl
+
+pub size_starts : (o : Option Quoted) → size_onto 0 o ≡ size_in o
+size_starts None = refl
+size_starts (Some q) = let e : 0 + q.size ≡ q.size = omega arith in ap Some e
+
+pub size_skipped : (rest : List ℕ) (i skip : ℕ) → i < length rest → 0 < skip
+    → size_onto (i + 1 + (skip - 1)) (quoted_from (skip - 1) (drop (i + 1) rest)) ≡ size_onto (i + skip) (quoted_from skip (drop i rest))
+size_skipped rest i skip h p =
+    sym (size_of_onto [] (i + 1 + (skip - 1)) (quoted_from (skip - 1) (drop (i + 1) rest))) ∙ ap size_in (quote_skipped rest [] i skip h p)
+    ∙ size_of_onto [] (i + skip) (quoted_from skip (drop i rest))
+
+pub size_coded : (rest : List ℕ) (i skip : ℕ) (p : StringByte) → i < length rest → skip ≡ 0 → nat_eq (get_or rest i 0) 34 ≡ false
+    → spelled_of (Some p) ≡ spelled_at (get_or rest i 0) (drop (i + 1) rest)
+    → size_onto (i + 1 + p.more) (quoted_from p.more (drop (i + 1) rest)) ≡ size_onto (i + skip) (quoted_from skip (drop i rest))
+size_coded rest i skip p h z ne e =
+    sym (size_of_onto (p.byte ∷ []) (i + 1 + p.more) (quoted_from p.more (drop (i + 1) rest))) ∙ ap size_in (quote_coded rest [] i skip p h z ne e)
+    ∙ size_of_onto [] (i + skip) (quoted_from skip (drop i rest))
+
+-- Comments
+
+onto_more : (n : ℕ) (o : Option ℕ) → comment_onto (n + 1) o ≡ comment_onto n (one_more o)
+onto_more n None = refl
+onto_more n (Some m) = ap Some (omega arith)
+
+pub comment_on : (rest : List ℕ) (i last : ℕ) → i < length rest → (nat_eq last 42 && nat_eq (get_or rest i 0) 47) ≡ false
+    → comment_onto (i + 1) (comment_from (get_or rest i 0) (drop (i + 1) rest)) ≡ comment_onto i (comment_from last (drop i rest))
+comment_on rest i last h e =
+    let b = get_or rest i 0 in
+    let bs = drop (i + 1) rest in
+    onto_more i (comment_from b bs)
+    ∙ ap (λ c. comment_onto i (if c then Some 1 else one_more (comment_from b bs))) (sym e)
+    ∙ ap (λ ts. comment_onto i (comment_from last ts)) (sym (drop_more rest i 0 h))
+
+pub comment_ends : (rest : List ℕ) (i last : ℕ) → i < length rest → (nat_eq last 42 && nat_eq (get_or rest i 0) 47) ≡ true
+    → comment_onto i (comment_from last (drop i rest)) ≡ Some (i + 1)
+comment_ends rest i last h e =
+    let b = get_or rest i 0 in
+    let bs = drop (i + 1) rest in
+    ap (λ ts. comment_onto i (comment_from last ts)) (drop_more rest i 0 h)
+    ∙ ap (λ c. comment_onto i (if c then Some 1 else one_more (comment_from b bs))) e

@@ -1,11 +1,17 @@
 pub mod Classes
 pub mod Extends
+pub mod Faulty
 pub mod Forward
+pub mod Heads
+pub mod TokenKinds
 pub mod Lexing
 pub mod Loops
 pub mod Many
+pub mod Means
 pub mod Nesting
 pub mod Numbers
 pub mod Operations
 pub mod PieceLoop
 pub mod Reading
+pub mod Rows
+pub mod Runs

@@ -6,14 +6,13 @@ use Rattle.c_tree.specs.declared.tree.CTy.{CTy}
 use Rattle.c_tree.specs.declared.tree.CArg.{CArg}
 use Rattle.c_tree.specs.declared.tree.CVar.{CVar}
 use Rattle.c_tree.specs.declared.function.CItem.{CItem}
-use Rattle.c_tree.specs.declared.tree.Token.{Token}
-use Rattle.c_tree.specs.declared.tree.Token.TheVariants.{Word, Mark}
+use Rattle.c_tree.specs.Lexical.{Token, Word, Mark}
 use Rattle.c_tree.specs.Names.{is_local_name}
-use Rattle.c_tree.specs.Code.{Item, declared, defined}
+use Rattle.c_tree.specs.Code.{Item, external, global, declared, defined}
 use Rattle.c_tree.specs.Functions.{item_of, items_of}
 use Rattle.c_tree.specs.Spelling.{
   type_text,
-  argument_token,
+  argument_tokens_of,
   more_arguments,
   argument_tokens,
   code_tokens,
@@ -31,7 +30,7 @@ use Rattle.c_tree.specs.Spelling.{
   NamedItems,
 }
 use Rattle.c_read.specs.Productions.{at_end}
-use Rattle.c_read.proofs.Extends.{code_extends, types_extends, params_extends, locals_extends}
+use Rattle.c_read.proofs.Extends.{argument_longer, code_extends, types_extends, params_extends, locals_extends}
 
 pub fewer : (old new : List Token) (t : Token) → old ≡ t ∷ new → length new < length old
 fewer old new t e = let l : length old ≡ length (t ∷ new) = ap length e in omega arith
@@ -44,17 +43,20 @@ fewer_by_three old new t u v e = let l : length old ≡ length (t ∷ u ∷ v �
 
 -- Arguments
 
-more_arguments_more : (args : List CArg) (a : CArg) (rest : List Token) → more_arguments (args ++ a ∷ []) rest ≡ more_arguments args (Mark 44 ∷ argument_token a ∷ rest)
+more_arguments_more : (args : List CArg) (a : CArg) (rest : List Token) → more_arguments (args ++ a ∷ []) rest ≡ more_arguments args (Mark 44 ∷ argument_tokens_of a rest)
 more_arguments_more [] a rest = refl
-more_arguments_more (b ∷ args) a rest = ap (λ ts. Mark 44 ∷ argument_token b ∷ ts) (more_arguments_more args a rest)
+more_arguments_more (b ∷ args) a rest = ap (λ ts. Mark 44 ∷ argument_tokens_of b ts) (more_arguments_more args a rest)
 
-pub arguments_more : (args : List CArg) (a : CArg) (rest : List Token) → 0 < length args → argument_tokens (args ++ a ∷ []) rest ≡ argument_tokens args (Mark 44 ∷ argument_token a ∷ rest)
+pub arguments_more : (args : List CArg) (a : CArg) (rest : List Token) → 0 < length args → argument_tokens (args ++ a ∷ []) rest ≡ argument_tokens args (Mark 44 ∷ argument_tokens_of a rest)
 arguments_more [] a rest l = absurd (omega arith)
-arguments_more (b ∷ args) a rest l = ap (λ ts. argument_token b ∷ ts) (more_arguments_more args a rest)
+arguments_more (b ∷ args) a rest l = ap (argument_tokens_of b) (more_arguments_more args a rest)
 
 pub named_arguments_more : (args : List CArg) (a : CArg) → NamedArguments args → NamedArgument a → NamedArguments (args ++ a ∷ [])
 named_arguments_more [] a h k = (k, tt)
 named_arguments_more (b ∷ args) a h k = (h.0, named_arguments_more args a h.1 k)
+
+pub argument_fewer : (old new : List Token) (a : CArg) → old ≡ Mark 44 ∷ argument_tokens_of a new → length new < length old
+argument_fewer old new a e = let l : length old ≡ length (Mark 44 ∷ argument_tokens_of a new) = ap length e in omega (arith, argument_longer a new)
 
 -- Types
 
@@ -95,6 +97,8 @@ named_items_more [] i h k = (k, tt)
 named_items_more (j ∷ is) i h k = (h.0, named_items_more is i h.1 k)
 
 pub item_longer : (i : Item) (rest : List Token) → length rest < length (item_tokens i rest)
+item_longer (external v) rest = omega arith
+item_longer (global v) rest = omega arith
 item_longer (declared t name params) rest = omega (arith, (types_extends params (Mark 41 ∷ Mark 59 ∷ rest)).longer)
 item_longer (defined f) rest =
     let a = (code_extends f.code (Mark 125 ∷ rest)).longer in

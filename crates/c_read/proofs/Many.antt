@@ -2,9 +2,9 @@
 use Rattle.std.proofs.Common.{◌≡◌, ℕ, zero, suc, ◌<◌, List, [], ◌∷◌, ◌++◌, length, Option, Some, None, refl, sym, ap, subst, ◌∙◌, append_assoc, arith}
 use Rattle.std.proofs.lemmas.List.{append-nil}
 use Rattle.std.specs.Prelude.{Err}
-use Rattle.c_tree.specs.declared.tree.Token.{Token}
-use Rattle.c_read.specs.declared.read.CReadErr.{CReadErr}
-use Rattle.c_read.specs.declared.read.CReadErr.TheVariants.{NotC, Memory}
+use Rattle.c_tree.specs.Lexical.{Token}
+use Rattle.c_read.specs.declared.stop.Stop.{Stop}
+use Rattle.c_read.specs.declared.stop.Stop.TheVariants.{Wrong, Memory}
 use Rattle.c_read.specs.Sequences.{after, if_else, onto, many, all, Took}
 
 pub onto-nil : {X : Type 0} (r : Option (List X × List Token)) → onto [] r ≡ r
@@ -103,8 +103,8 @@ goes_on {X} {one} {end} {target} {xs} {now} g now' rest x xs' e n f l s =
 
 pub stops : {X : Type 0} {one : List Token → Option (X × List Token)} {end : List Token → Option (List Token)}
     {target : Option (List X × List Token)} {xs : List X} {now : List Token} → Going one end target xs now
-    → (now' left gone : List Token) (e : CReadErr) → now' ≡ now → end now ≡ None → Took (one now') (Err e) left → Took target (Err e) gone
-stops {X} {one} g now' left gone NotC e n t = going_stuck g n (ap one (sym e) ∙ t)
+    → (now' left gone : List Token) (e : Stop) → now' ≡ now → end now ≡ None → Took (one now') (Err e) left → Took target (Err e) gone
+stops {X} {one} g now' left gone Wrong e n t = going_stuck g n (ap one (sym e) ∙ t)
 stops g now' left gone Memory e n t = tt
 
 -- a list is one longer, and so is its text

@@ -4,9 +4,9 @@ use Rattle.c_tree.specs.declared.tree.CExpr.{CExpr}
 use Rattle.c_tree.specs.declared.pieces.Piece.{Piece}
 use Rattle.c_tree.specs.declared.pieces.Piece.TheVariants as piece
 use Rattle.c_tree.specs.declared.laying.Layout.{Layout}
-use Rattle.c_tree.specs.Code.{Code, done, assign, call, return, test, loop}
+use Rattle.c_tree.specs.Code.{Code, done, assign, call, return, test, loop, ended, goto, catch, protect}
 use Rattle.c_tree.specs.Pieces.{pieces, LaysOut}
-use Rattle.c_read.specs.Nesting.{Whole, follows, other, Walk, walk, test_of, loop_of, before, before_walk, walked, alone, whole_code, code_in}
+use Rattle.c_read.specs.Nesting.{Whole, follows, other, labelled, cleanup, Walk, walk, test_of, loop_of, ended_of, catch_of, protect_of, before, before_walk, walked, alone, whole_code, code_in}
 use Rattle.c_read.specs.Yields.{laid_code}
 
 -- Forward -----------------------------------------------------------------------------------
@@ -30,6 +30,22 @@ walked_pieces (loop l body next) others behind h =
     let end = piece.End ∷ pieces next others in
     let n : walked end ≡ Some (walk done (follows next ∷ behind)) = walked_on piece.End (pieces next others) (walk next behind) (walked_pieces next others behind h) in
     walked_on (piece.Loop l) (pieces body end) (walk body (follows next ∷ behind)) (walked_pieces body end (follows next ∷ behind) n)
+walked_pieces (ended body l next) others behind h =
+    let end = piece.Ended l ∷ pieces next others in
+    let n : walked end ≡ Some (walk done (labelled l next ∷ behind)) = walked_on (piece.Ended l) (pieces next others) (walk next behind) (walked_pieces next others behind h) in
+    walked_on piece.Begin (pieces body end) (walk body (labelled l next ∷ behind)) (walked_pieces body end (labelled l next ∷ behind) n)
+walked_pieces (goto l next) others behind h = walked_on (piece.Goto l) (pieces next others) (walk next behind) (walked_pieces next others behind h)
+walked_pieces (catch k r body next) others behind h =
+    let end = piece.End ∷ pieces next others in
+    let n : walked end ≡ Some (walk done (follows next ∷ behind)) = walked_on piece.End (pieces next others) (walk next behind) (walked_pieces next others behind h) in
+    walked_on (piece.Catch k r) (pieces body end) (walk body (follows next ∷ behind)) (walked_pieces body end (follows next ∷ behind) n)
+walked_pieces (protect a b next) others behind h =
+    let end = piece.End ∷ pieces next others in
+    let second = piece.Cleanup ∷ pieces b end in
+    let n : walked end ≡ Some (walk done (follows next ∷ behind)) = walked_on piece.End (pieces next others) (walk next behind) (walked_pieces next others behind h) in
+    let m : walked second ≡ Some (walk done (cleanup b ∷ follows next ∷ behind)) =
+    walked_on piece.Cleanup (pieces b end) (walk b (follows next ∷ behind)) (walked_pieces b end (follows next ∷ behind) n) in
+    walked_on piece.Protect (pieces a second) (walk a (cleanup b ∷ follows next ∷ behind)) (walked_pieces a second (cleanup b ∷ follows next ∷ behind) m)
 
 pub code_in_pieces : (c : Code) → code_in (pieces c []) ≡ Some c
 unfolding code_in
@@ -41,6 +57,8 @@ abbrev pieces_behind : List Whole → List Piece
 pieces_behind [] = []
 pieces_behind (follows c ∷ behind) = piece.End ∷ pieces c (pieces_behind behind)
 pieces_behind (other c ∷ behind) = piece.Else ∷ pieces c (pieces_behind behind)
+pieces_behind (labelled l c ∷ behind) = piece.Ended l ∷ pieces c (pieces_behind behind)
+pieces_behind (cleanup c ∷ behind) = piece.Cleanup ∷ pieces c (pieces_behind behind)
 
 abbrev pieces_of : Walk → List Piece
 pieces_of w = pieces w.code (pieces_behind w.behind)
@@ -57,21 +75,58 @@ test_back : (e : CExpr) (a : Code) (behind : List Whole) (w : Walk) → test_of 
 test_back e a (other b ∷ follows rest ∷ behind) w h = same_pieces (walk (test e a b rest) behind) w h
 test_back e a [] w h = absurd (cc)
 test_back e a (follows b ∷ behind) w h = absurd (cc)
+test_back e a (labelled l b ∷ behind) w h = absurd (cc)
+test_back e a (cleanup b ∷ behind) w h = absurd (cc)
 test_back e a (other b ∷ []) w h = absurd (cc)
 test_back e a (other b ∷ other d ∷ behind) w h = absurd (cc)
+test_back e a (other b ∷ labelled l d ∷ behind) w h = absurd (cc)
+test_back e a (other b ∷ cleanup d ∷ behind) w h = absurd (cc)
 
 loop_back : (l : List ℕ) (body : Code) (behind : List Whole) (w : Walk) → loop_of l body behind ≡ Some w → piece.Loop l ∷ pieces body (pieces_behind behind) ≡ pieces_of w
 loop_back l body (follows rest ∷ behind) w h = same_pieces (walk (loop l body rest) behind) w h
 loop_back l body [] w h = absurd (cc)
 loop_back l body (other b ∷ behind) w h = absurd (cc)
+loop_back l body (labelled k b ∷ behind) w h = absurd (cc)
+loop_back l body (cleanup b ∷ behind) w h = absurd (cc)
+
+ended_back : (body : Code) (behind : List Whole) (w : Walk) → ended_of body behind ≡ Some w → piece.Begin ∷ pieces body (pieces_behind behind) ≡ pieces_of w
+ended_back body (labelled l rest ∷ behind) w h = same_pieces (walk (ended body l rest) behind) w h
+ended_back body [] w h = absurd (cc)
+ended_back body (follows b ∷ behind) w h = absurd (cc)
+ended_back body (other b ∷ behind) w h = absurd (cc)
+ended_back body (cleanup b ∷ behind) w h = absurd (cc)
+
+catch_back : (k r : List ℕ) (body : Code) (behind : List Whole) (w : Walk) → catch_of k r body behind ≡ Some w → piece.Catch k r ∷ pieces body (pieces_behind behind) ≡ pieces_of w
+catch_back k r body (follows rest ∷ behind) w h = same_pieces (walk (catch k r body rest) behind) w h
+catch_back k r body [] w h = absurd (cc)
+catch_back k r body (other b ∷ behind) w h = absurd (cc)
+catch_back k r body (labelled l b ∷ behind) w h = absurd (cc)
+catch_back k r body (cleanup b ∷ behind) w h = absurd (cc)
+
+protect_back : (a : Code) (behind : List Whole) (w : Walk) → protect_of a behind ≡ Some w → piece.Protect ∷ pieces a (pieces_behind behind) ≡ pieces_of w
+protect_back a (cleanup b ∷ follows rest ∷ behind) w h = same_pieces (walk (protect a b rest) behind) w h
+protect_back a [] w h = absurd (cc)
+protect_back a (follows b ∷ behind) w h = absurd (cc)
+protect_back a (other b ∷ behind) w h = absurd (cc)
+protect_back a (labelled l b ∷ behind) w h = absurd (cc)
+protect_back a (cleanup b ∷ []) w h = absurd (cc)
+protect_back a (cleanup b ∷ other d ∷ behind) w h = absurd (cc)
+protect_back a (cleanup b ∷ labelled l d ∷ behind) w h = absurd (cc)
+protect_back a (cleanup b ∷ cleanup d ∷ behind) w h = absurd (cc)
 
 before_back : (p : Piece) (code : Code) (behind : List Whole) (w : Walk) → before p code behind ≡ Some w → p ∷ pieces code (pieces_behind behind) ≡ pieces_of w
 before_back (piece.Assign x e) code behind w h = same_pieces (walk (assign x e code) behind) w h
 before_back (piece.Call c) code behind w h = same_pieces (walk (call c code) behind) w h
 before_back (piece.Return e) code behind w h = same_pieces (walk (return e code) behind) w h
+before_back (piece.Goto l) code behind w h = same_pieces (walk (goto l code) behind) w h
 before_back (piece.If e) code behind w h = test_back e code behind w h
 before_back piece.Else code behind w h = same_pieces (walk done (other code ∷ behind)) w h
 before_back (piece.Loop l) code behind w h = loop_back l code behind w h
+before_back piece.Begin code behind w h = ended_back code behind w h
+before_back (piece.Ended l) code behind w h = same_pieces (walk done (labelled l code ∷ behind)) w h
+before_back (piece.Catch k r) code behind w h = catch_back k r code behind w h
+before_back piece.Protect code behind w h = protect_back code behind w h
+before_back piece.Cleanup code behind w h = same_pieces (walk done (cleanup code ∷ behind)) w h
 before_back piece.End code behind w h = same_pieces (walk done (follows code ∷ behind)) w h
 
 walked_back : (ps : List Piece) (w : Walk) → walked ps ≡ Some w → ps ≡ pieces_of w

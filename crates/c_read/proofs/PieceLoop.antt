@@ -4,82 +4,82 @@ use Rattle.std.proofs.lemmas.List.{append-nil}
 use Rattle.std.specs.Prelude.{Err}
 use Rattle.c_tree.specs.declared.pieces.Piece.{Piece}
 use Rattle.c_tree.specs.declared.laying.Layout.{Layout}
-use Rattle.c_tree.specs.declared.tree.Token.{Token}
-use Rattle.c_tree.specs.declared.tree.Token.TheVariants.{Mark}
+use Rattle.c_tree.specs.Lexical.{Token, Mark}
 use Rattle.c_tree.specs.Code.{Code}
 use Rattle.c_tree.specs.Pieces.{LaysOut}
 use Rattle.c_tree.specs.Spelling.{piece_tokens, pieces_tokens, NamedPiece, NamedPieces}
 use Rattle.c_tree.proofs.Spelled.{pieces_spelled, named_code}
-use Rattle.c_read.specs.declared.read.CReadErr.{CReadErr}
-use Rattle.c_read.specs.declared.read.CReadErr.TheVariants.{NotC, Memory}
+use Rattle.c_read.specs.declared.stop.Stop.{Stop}
+use Rattle.c_read.specs.declared.stop.Stop.TheVariants.{Wrong, Memory}
 use Rattle.c_read.specs.Sequences.{after, read_as, if_else, onto, Took}
-use Rattle.c_read.specs.Productions.{next_piece, depth_after, after_body, pieces_within, all_pieces, body}
+use Rattle.c_read.specs.Productions.{next_piece, opens_after, after_body, pieces_within, all_pieces, body}
 use Rattle.c_read.specs.Nesting.{code_in}
+use Rattle.c_read.specs.declared.bodies.Open.{Open}
 use Rattle.c_read.specs.Yields.{YieldsPieces, YieldsBody, laid_code}
 use Rattle.c_read.proofs.Many.{onto-nil, onto-onto}
 use Rattle.c_read.proofs.Nesting.{laid, not_laid}
 use Rattle.c_read.proofs.Extends.{piece_longer}
 
-pub within_more : (most depth : ℕ) (ps : List Piece) (ts : List Token) (p : Piece) (rest : List Token) → after_body depth ts ≡ None → next_piece ts ≡ Some (p, rest)
-    → onto ps (pieces_within (suc most) depth ts) ≡ onto (ps ++ p ∷ []) (pieces_within most (depth_after depth p) rest)
+pub within_more : (most : ℕ) (opens : List Open) (ps : List Piece) (ts : List Token) (p : Piece) (rest : List Token) → after_body opens ts ≡ None → next_piece opens ts ≡ Some (p, rest)
+    → onto ps (pieces_within (suc most) opens ts) ≡ onto (ps ++ p ∷ []) (pieces_within most (opens_after p opens) rest)
 unfolding pieces_within
-within_more most depth ps ts p rest e f =
-    ap (onto ps) (ap (λ o. if_else o (λ left. Some ([], left)) (after (next_piece ts) (λ p rest. onto (p ∷ []) (pieces_within most (depth_after depth p) rest)))) e
-    ∙ ap (λ o. after o (λ p rest. onto (p ∷ []) (pieces_within most (depth_after depth p) rest))) f)
-    ∙ onto-onto ps p (pieces_within most (depth_after depth p) rest)
+within_more most opens ps ts p rest e f =
+    ap (onto ps) (ap (λ o. if_else o (λ left. Some ([], left)) (after (next_piece opens ts) (λ p rest. onto (p ∷ []) (pieces_within most (opens_after p opens) rest)))) e
+    ∙ ap (λ o. after o (λ p rest. onto (p ∷ []) (pieces_within most (opens_after p opens) rest))) f)
+    ∙ onto-onto ps p (pieces_within most (opens_after p opens) rest)
 
-within_stuck : (most depth : ℕ) (ps : List Piece) (ts : List Token) → after_body depth ts ≡ None → next_piece ts ≡ None → onto ps (pieces_within (suc most) depth ts) ≡ None
+within_stuck : (most : ℕ) (opens : List Open) (ps : List Piece) (ts : List Token) → after_body opens ts ≡ None → next_piece opens ts ≡ None → onto ps (pieces_within (suc most) opens ts) ≡ None
 unfolding pieces_within
-within_stuck most depth ps ts e f =
-    ap (onto ps) (ap (λ o. if_else o (λ left. Some ([], left)) (after (next_piece ts) (λ p rest. onto (p ∷ []) (pieces_within most (depth_after depth p) rest)))) e
-    ∙ ap (λ o. after o (λ p rest. onto (p ∷ []) (pieces_within most (depth_after depth p) rest))) f)
+within_stuck most opens ps ts e f =
+    ap (onto ps) (ap (λ o. if_else o (λ left. Some ([], left)) (after (next_piece opens ts) (λ p rest. onto (p ∷ []) (pieces_within most (opens_after p opens) rest)))) e
+    ∙ ap (λ o. after o (λ p rest. onto (p ∷ []) (pieces_within most (opens_after p opens) rest))) f)
 
-pub within_ended : (most depth : ℕ) (ps : List Piece) (ts left : List Token) → after_body depth ts ≡ Some left → onto ps (pieces_within (suc most) depth ts) ≡ Some (ps, left)
+pub within_ended : (most : ℕ) (opens : List Open) (ps : List Piece) (ts left : List Token) → after_body opens ts ≡ Some left → onto ps (pieces_within (suc most) opens ts) ≡ Some (ps, left)
 unfolding pieces_within
-within_ended most depth ps ts left e =
-    ap (onto ps) (ap (λ o. if_else o (λ left. Some ([], left)) (after (next_piece ts) (λ p rest. onto (p ∷ []) (pieces_within most (depth_after depth p) rest)))) e)
+within_ended most opens ps ts left e =
+    ap (onto ps) (ap (λ o. if_else o (λ left. Some ([], left)) (after (next_piece opens ts) (λ p rest. onto (p ∷ []) (pieces_within most (opens_after p opens) rest)))) e)
     ∙ ap (λ qs. Some (qs, left)) (append-nil ps)
 
--- in the middle of a function: the pieces so far, how many blocks are open, the tokens now, and what is read at last
-pub record Within (target : Option (List Piece × List Token)) (ps : List Piece) (depth : ℕ) (now : List Token) : Type 0 where
+-- in the middle of a function: the pieces so far, which blocks are open, the tokens now, and what is read at last
+pub record Within (target : Option (List Piece × List Token)) (ps : List Piece) (opens : List Open) (now : List Token) : Type 0 where
   pub most : ℕ
   pub enough : length now < most
-  pub goes : onto ps (pieces_within most depth now) ≡ target
+  pub goes : onto ps (pieces_within most opens now) ≡ target
 
-pub within_starts : (ps : List Piece) (now : List Token) → ps ≡ [] → Within (all_pieces now) ps 0 now
+pub within_starts : (ps : List Piece) (now : List Token) → ps ≡ [] → Within (all_pieces now) ps [] now
 unfolding all_pieces
 within_starts ps now e =
-    subst (λ qs. Within (pieces_within (suc (length now)) 0 now) qs 0 now) (sym e)
-    (record { most = suc (length now); enough = omega arith; goes = onto-nil (pieces_within (suc (length now)) 0 now) })
+    subst (λ qs. Within (pieces_within (suc (length now)) [] now) qs [] now) (sym e)
+    (record { most = suc (length now); enough = omega arith; goes = onto-nil (pieces_within (suc (length now)) [] now) })
 
-pub within_goes_on : {target : Option (List Piece × List Token)} {ps : List Piece} {depth : ℕ} {now : List Token} → Within target ps depth now
-    → (now' rest : List Token) (p : Piece) (ps' : List Piece) (depth' : ℕ) → now' ≡ now → after_body depth now ≡ None → next_piece now' ≡ Some (p, rest)
-    → length rest < length now' → ps' ≡ ps ++ p ∷ [] → depth' ≡ depth_after depth p → Within target ps' depth' rest
-within_goes_on {target} {ps} {depth} {now} w now' rest p ps' depth' e n f l s o =
-    subst (λ qs. Within target qs depth' rest) (sym s)
-    (subst (λ k. Within target (ps ++ p ∷ []) k rest) (sym o) (go w.most w.enough w.goes (ap next_piece (sym e) ∙ f) (subst (λ ts. length rest < length ts) e l)))
+pub within_goes_on : {target : Option (List Piece × List Token)} {ps : List Piece} {opens : List Open} {now : List Token} → Within target ps opens now
+    → (now' rest : List Token) (p : Piece) (ps' : List Piece) (opens' : List Open) → now' ≡ now → after_body opens now ≡ None → next_piece opens now' ≡ Some (p, rest)
+    → length rest < length now' → ps' ≡ ps ++ p ∷ [] → opens' ≡ opens_after p opens → Within target ps' opens' rest
+within_goes_on {target} {ps} {opens} {now} w now' rest p ps' opens' e n f l s o =
+    subst (λ qs. Within target qs opens' rest) (sym s)
+    (subst (λ k. Within target (ps ++ p ∷ []) k rest) (sym o) (go w.most w.enough w.goes (ap (next_piece opens) (sym e) ∙ f) (subst (λ ts. length rest < length ts) e l)))
   where
-    go : (most : ℕ) → length now < most → onto ps (pieces_within most depth now) ≡ target → next_piece now ≡ Some (p, rest) → length rest < length now
-        → Within target (ps ++ p ∷ []) (depth_after depth p) rest
+    go : (most : ℕ) → length now < most → onto ps (pieces_within most opens now) ≡ target → next_piece opens now ≡ Some (p, rest) → length rest < length now
+        → Within target (ps ++ p ∷ []) (opens_after p opens) rest
     go zero k h f l = absurd (omega arith)
-    go (suc most) k h f l = record { most = most; enough = omega arith; goes = sym (within_more most depth ps now p rest n f) ∙ h }
+    go (suc most) k h f l = record { most = most; enough = omega arith; goes = sym (within_more most opens ps now p rest n f) ∙ h }
 
-pub within_stops : {target : Option (List Piece × List Token)} {ps : List Piece} {depth : ℕ} {now : List Token} → Within target ps depth now
-    → (now' left gone : List Token) (e : CReadErr) → now' ≡ now → after_body depth now ≡ None → Took (next_piece now') (Err e) left → Took target (Err e) gone
-within_stops {target} {ps} {depth} {now} w now' left gone NotC e n t = go w.most w.enough w.goes
+pub within_stops : {target : Option (List Piece × List Token)} {ps : List Piece} {opens : List Open} {now : List Token} → Within target ps opens now
+    → (now' left gone : List Token) (e : Stop) → now' ≡ now → after_body opens now ≡ None → Took (next_piece opens now') (Err e) left → Took target (Err e) gone
+within_stops {target} {ps} {opens} {now} w now' left gone Wrong e n t = go w.most w.enough w.goes
   where
-    go : (most : ℕ) → length now < most → onto ps (pieces_within most depth now) ≡ target → target ≡ None
+    go : (most : ℕ) → length now < most → onto ps (pieces_within most opens now) ≡ target → target ≡ None
     go zero k h = absurd (omega arith)
-    go (suc most) k h = sym h ∙ within_stuck most depth ps now n (ap next_piece (sym e) ∙ t)
+    go (suc most) k h = sym h ∙ within_stuck most opens ps now n (ap (next_piece opens) (sym e) ∙ t)
 within_stops w now' left gone Memory e n t = tt
 
-pub within_ends : {target : Option (List Piece × List Token)} {ps : List Piece} {depth : ℕ} {now : List Token} → Within target ps depth now
-    → (left : List Token) → after_body depth now ≡ Some left → target ≡ Some (ps, left)
-within_ends {target} {ps} {depth} {now} w left e = go w.most w.enough w.goes
+pub within_ends : {target : Option (List Piece × List Token)} {ps : List Piece} {opens : List Open} {now : List Token} → Within target ps opens now
+    → (left : List Token) → after_body opens now ≡ Some left → target ≡ Some (ps, left)
+within_ends {target} {ps} {opens} {now} w left e = go w.most w.enough w.goes
   where
-    go : (most : ℕ) → length now < most → onto ps (pieces_within most depth now) ≡ target → target ≡ Some (ps, left)
+    go : (most : ℕ) → length now < most → onto ps (pieces_within most opens now) ≡ target → target ≡ Some (ps, left)
     go zero k h = absurd (omega arith)
-    go (suc most) k h = sym h ∙ within_ended most depth ps now left e
+    go (suc most) k h = sym h ∙ within_ended most opens ps now left e
 
 -- One more piece, as it is spelled
 

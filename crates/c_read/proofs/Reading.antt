@@ -1,23 +1,23 @@
 -- A text of items is read as those items, and any other is refused.
-use Rattle.std.proofs.Common.{◌≡◌, ℕ, List, [], true, false, Option, Some, None, sym, ap, ◌∙◌}
+use Rattle.std.proofs.Common.{◌≡◌, ℕ, List, [], Option, Some, None, sym, ap, ◌∙◌}
 use Rattle.std.specs.Prelude.{Result, Ok, Err, IfOk}
 use Rattle.c_tree.specs.declared.function.CItem.{CItem}
 use Rattle.c_tree.specs.declared.function.CProgram.{CProgram}
 use Rattle.c_tree.specs.declared.function.CUnit.{CUnit}
-use Rattle.c_tree.specs.declared.tree.Token.{Token}
+use Rattle.c_tree.specs.Lexical.{Token}
 use Rattle.c_tree.specs.Code.{Item}
 use Rattle.c_tree.specs.Functions.{items_of}
-use Rattle.c_tree.specs.Spelling.{CText, items_tokens}
+use Rattle.c_tree.specs.Spelling.{CText}
 use Rattle.c_tree.specs.Lexical.{tokens}
 use Rattle.c_read.specs.declared.read.CReadErr.{CReadErr}
 use Rattle.c_read.specs.declared.read.CReadErr.TheVariants.{NotC, Memory}
-use Rattle.c_read.specs.Answers.{HasNoTree, ReadsProgram, ReadsUnit, GivesProgram, GivesUnit}
-use Rattle.c_read.specs.Reading.{ReadsItems}
-use Rattle.c_read.specs.Scans.{has_bad, GivesTokens}
+use Rattle.c_read.specs.declared.stop.Stop.{Stop}
+use Rattle.c_read.specs.declared.stop.Stop.TheVariants as stop
+use Rattle.c_read.specs.Answers.{ReadsProgram, ReadsUnit, GivesProgram, GivesUnit}
+use Rattle.c_read.specs.Reading.{ReadsTree}
 use Rattle.c_read.specs.Sequences.{TookAs}
 use Rattle.c_read.specs.Productions.{parsed}
 use Rattle.c_read.specs.Yields.{YieldsItems}
-use Rattle.c_read.proofs.Extends.{items_extends}
 use Rattle.c_read.proofs.Forward.{parsed_read}
 
 parsed_text : (bytes : List ℕ) (is : List Item) → CText bytes is → parsed (tokens bytes) ≡ Some (is, [])
@@ -31,31 +31,21 @@ unique : (bytes : List ℕ) (is js : List Item) → CText bytes is → CText byt
 unfolding items_in
 unique bytes is js h k = ap items_in (sym (parsed_text bytes is h) ∙ parsed_text bytes js k)
 
-none_bad : (bytes : List ℕ) → has_bad (tokens bytes) ≡ true → HasNoTree bytes
-none_bad bytes b is h =
-    let clean : has_bad (items_tokens is []) ≡ false = (items_extends is []).clean in
-    let e : has_bad (tokens bytes) ≡ has_bad (items_tokens is []) = ap has_bad h.spelled in
-    absurd (cc)
-
-pub refused_tokens : (bytes : List ℕ) (e : CReadErr) → GivesTokens bytes (Err e) → ReadsItems bytes (Err e)
-refused_tokens bytes NotC h = none_bad bytes h
-refused_tokens bytes Memory h = tt
-
-pub read_answer : (bytes : List ℕ) (ts left : List Token) (r : Result (List CItem) CReadErr)
-    → tokens bytes ≡ ts → TookAs items_of (parsed ts) r left → IfOk r (λ is. YieldsItems ts is []) → ReadsItems bytes r
+pub read_answer : (bytes : List ℕ) (ts left : List Token) (r : Result (List CItem) Stop)
+    → tokens bytes ≡ ts → TookAs items_of (parsed ts) r left → IfOk r (λ is. YieldsItems ts is []) → ReadsTree bytes r
 read_answer bytes ts left (Ok is) e t y = record { spelled = e ∙ y.0; named = y.1 }
-read_answer bytes ts left (Err NotC) e t y = λ is h.
+read_answer bytes ts left (Err stop.Wrong) e t y = λ is h.
     let n : parsed (tokens bytes) ≡ None = ap parsed e ∙ t in
     let s : parsed (tokens bytes) ≡ Some (is, []) = parsed_text bytes is h in
     absurd (cc)
-read_answer bytes ts left (Err Memory) e t y = tt
+read_answer bytes ts left (Err stop.Memory) e t y = tt
 
 pub program_given : (bytes : List ℕ) (r : Result CProgram CReadErr) → ReadsProgram bytes r → (is : List Item) → CText bytes is → GivesProgram is r
 program_given bytes (Ok p) a is h = unique bytes (items_of p.items) is a h
-program_given bytes (Err NotC) a is h = a is h
+program_given bytes (Err (NotC at)) a is h = a.no_tree is h
 program_given bytes (Err Memory) a is h = tt
 
 pub unit_given : (bytes : List ℕ) (r : Result CUnit CReadErr) → ReadsUnit bytes r → (is : List Item) → CText bytes is → GivesUnit is r
 unit_given bytes (Ok u) a is h = unique bytes (items_of u.items) is a h
-unit_given bytes (Err NotC) a is h = a is h
+unit_given bytes (Err (NotC at)) a is h = a.no_tree is h
 unit_given bytes (Err Memory) a is h = tt

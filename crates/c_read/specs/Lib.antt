@@ -1,8 +1,13 @@
 pub mod Answers
+pub mod Dues
+pub mod Kinds
+pub mod Lefts
 pub mod Nesting
 pub mod Productions
+pub mod Reaches
 pub mod Reading
 pub mod Scans
 pub mod Sequences
+pub mod Tokens
 pub mod Words
 pub mod Yields

@@ -1,5 +1,5 @@
 -- What each production of the C grammar reads.
-use Rattle.std.specs.Prelude.{ℕ, zero, suc, ◌-◌, List, [], ◌∷◌, length, codes, nat_eq, Bool, true, if◌then◌else◌, Option, Some, None}
+use Rattle.std.specs.Prelude.{ℕ, zero, suc, List, [], ◌∷◌, length, codes, nat_eq, Bool, true, if◌then◌else◌, Option, Some, None}
 use Rattle.std.specs.Option.{is_some}
 use Rattle.c_tree.specs.declared.tree.CTy.{CTy}
 use Rattle.c_tree.specs.declared.tree.CArg.{CArg}
@@ -10,22 +10,27 @@ use Rattle.c_tree.specs.declared.tree.CExpr.TheVariants as expr
 use Rattle.c_tree.specs.declared.tree.CVar.{CVar}
 use Rattle.c_tree.specs.declared.pieces.Piece.{Piece}
 use Rattle.c_tree.specs.declared.pieces.Piece.TheVariants as piece
-use Rattle.c_tree.specs.Code.{Code, Item, declared, defined}
-use Rattle.c_tree.specs.declared.tree.Token.{Token}
-use Rattle.c_tree.specs.declared.tree.Token.TheVariants.{Word, Mark, Str, Bad}
-use Rattle.c_tree.specs.Names.{is_function_name, is_local_name, is_label_name}
-use Rattle.c_read.specs.Sequences.{after, on_rest, read_as, if_else, after_mark, word_first, named, is_first, onto, all}
-use Rattle.c_read.specs.Words.{type_of, atom_of, callee_of, is_return, is_if, is_else}
+use Rattle.c_tree.specs.Code.{Code, Item, external, global, declared, defined}
+use Rattle.c_tree.specs.Lexical.{Token, Word, Mark, Str, Bad}
+use Rattle.c_tree.specs.Names.{is_function_name, is_entry_name, is_variable_name, is_global_name, is_local_name, is_label_name, is_end_label_name, is_target_name}
+use Rattle.c_read.specs.Sequences.{after, on_rest, read_as, if_else, after_mark, after_text, word_first, named, is_first, onto, all}
+use Rattle.c_read.specs.Words.{type_of, atom_of, callee_of, is_return, is_if, is_goto, is_catch, is_protect, is_extern}
 use Rattle.scheme_data.specs.Names.{is_same}
 use Rattle.c_read.specs.Nesting.{code_in}
+use Rattle.c_read.specs.declared.bodies.Open.{Open}
+use Rattle.c_read.specs.declared.bodies.Open.TheVariants.{Plain, InIf, Labelled, Protected}
 
 -- Calls -------------------------------------------------------------------------------------
+
+-- after a mark that is to be `&`
+abbrev pub entry : ℕ → List Token → Option (CArg × List Token)
+entry mark tokens = if nat_eq mark 38 then after (named is_entry_name tokens) (λ x left. Some (arg.Entry x, left)) else None
 
 abbrev pub argument : List Token → Option (CArg × List Token)
 argument [] = None
 argument (Word w ∷ rest) = after (read_as (atom_of w) rest) (λ a left. Some (arg.Atom a, left))
 argument (Str text ∷ rest) = Some (arg.Str text, rest)
-argument (Mark m ∷ rest) = None
+argument (Mark m ∷ rest) = entry m rest
 argument (Bad ∷ rest) = None
 
 unfoldable pub next_argument : List Token → Option (CArg × List Token)
@@ -54,10 +59,10 @@ expression tokens =
 abbrev pub returned : List Token → Option (Piece × List Token)
 returned tokens = after (expression tokens) (λ e rest. on_rest (after_mark 59 rest) (λ left. Some (piece.Return e, left)))
 
--- after the local and `=`
+-- after the variable and `=`
 abbrev pub assigned : List ℕ → List Token → Option (Piece × List Token)
 assigned word tokens =
-    if is_local_name word then after (expression tokens) (λ e rest. on_rest (after_mark 59 rest) (λ left. Some (piece.Assign word e, left))) else None
+    if is_variable_name word then after (expression tokens) (λ e rest. on_rest (after_mark 59 rest) (λ left. Some (piece.Assign word e, left))) else None
 
 abbrev pub called : List ℕ → List Token → Option (Piece × List Token)
 called word tokens = on_rest (after_mark 40 tokens) (λ inner. after (call_of word inner) (λ c rest. on_rest (after_mark 59 rest) (λ left. Some (piece.Call c, left))))
@@ -67,13 +72,10 @@ unfoldable pub condition : List Token → Option (Piece × List Token)
 condition tokens =
     on_rest (after_mark 40 tokens) (λ inner. after (expression inner) (λ e rest. on_rest (after_mark 41 rest) (λ more. on_rest (after_mark 123 more) (λ left. Some (piece.If e, left)))))
 
-abbrev pub after_for : List Token → Option (List Token)
-after_for tokens = after (word_first tokens) (λ w rest. if is_same w (codes "for") then Some rest else None)
-
 -- `for ( ; ; ) {`
 unfoldable pub after_head : List Token → Option (List Token)
 after_head tokens =
-    on_rest (after_for tokens) (λ a. on_rest (after_mark 40 a) (λ b. on_rest (after_mark 59 b) (λ c. on_rest (after_mark 59 c) (λ d. on_rest (after_mark 41 d) (λ e. after_mark 123 e)))))
+    on_rest (after_text (codes "for") tokens) (λ a. on_rest (after_mark 40 a) (λ b. on_rest (after_mark 59 b) (λ c. on_rest (after_mark 59 c) (λ d. on_rest (after_mark 41 d) (λ e. after_mark 123 e)))))
 
 -- after the label and its colon
 abbrev pub looped : List ℕ → List Token → Option (Piece × List Token)
@@ -83,42 +85,79 @@ looped word tokens = if is_label_name word then on_rest (after_head tokens) (λ 
 unfoldable pub named_statement : List ℕ → List Token → Option (Piece × List Token)
 named_statement word tokens = if_else (after_mark 61 tokens) (assigned word) (if_else (after_mark 58 tokens) (looped word) (called word tokens))
 
+-- after `goto`
+unfoldable pub jump : List Token → Option (Piece × List Token)
+jump tokens = after (named is_target_name tokens) (λ l rest. on_rest (after_mark 59 rest) (λ left. Some (piece.Goto l, left)))
+
+-- `( local , local ) {`, after `BGL_CATCH`
+unfoldable pub catching : List Token → Option (Piece × List Token)
+catching tokens =
+    on_rest (after_mark 40 tokens) (λ a. after (named is_local_name a) (λ k b. on_rest (after_mark 44 b) (λ c. after (named is_local_name c) (λ r d.
+    on_rest (after_mark 41 d) (λ e. on_rest (after_mark 123 e) (λ left. Some (piece.Catch k r, left)))))))
+
+abbrev pub protecting : List Token → Option (Piece × List Token)
+protecting tokens = on_rest (after_mark 123 tokens) (λ left. Some (piece.Protect, left))
+
+abbrev pub rarer_statement : List ℕ → List Token → Option (Piece × List Token)
+rarer_statement word tokens =
+    if is_goto word then jump tokens else (if is_catch word then catching tokens else (if is_protect word then protecting tokens else named_statement word tokens))
+
 abbrev pub statement_of : List ℕ → List Token → Option (Piece × List Token)
-statement_of word tokens = if is_return word then returned tokens else (if is_if word then condition tokens else named_statement word tokens)
+statement_of word tokens = if is_return word then returned tokens else (if is_if word then condition tokens else rarer_statement word tokens)
 
 unfoldable pub statement : List Token → Option (Piece × List Token)
 statement tokens = after (word_first tokens) statement_of
 
--- after a closing brace
-unfoldable pub closing : List Token → Option (Piece × List Token)
-closing tokens =
-    if is_first is_else tokens then after (word_first tokens) (λ w rest. on_rest (after_mark 123 rest) (λ left. Some (piece.Else, left))) else Some (piece.End, tokens)
+-- after the closing brace of such a block
+unfoldable pub closing_of : Open → List Token → Option (Piece × List Token)
+closing_of Plain tokens = Some (piece.End, tokens)
+closing_of InIf tokens = on_rest (after_text (codes "else") tokens) (λ a. on_rest (after_mark 123 a) (λ left. Some (piece.Else, left)))
+closing_of Labelled tokens =
+    after (named is_end_label_name tokens) (λ l a. on_rest (after_mark 58 a) (λ b. on_rest (after_mark 59 b) (λ left. Some (piece.Ended l, left))))
+closing_of Protected tokens = on_rest (after_mark 123 tokens) (λ left. Some (piece.Cleanup, left))
 
-unfoldable pub next_piece : List Token → Option (Piece × List Token)
-next_piece tokens = if_else (after_mark 125 tokens) closing (statement tokens)
+-- after a closing brace, where these blocks are open, innermost first
+abbrev pub closing : List Open → List Token → Option (Piece × List Token)
+closing [] tokens = None
+closing (one ∷ opens) tokens = closing_of one tokens
 
--- how many blocks are open after a piece
-abbrev pub depth_after : ℕ → Piece → ℕ
-depth_after depth (piece.Assign x e) = depth
-depth_after depth (piece.Call c) = depth
-depth_after depth (piece.Return e) = depth
-depth_after depth (piece.If e) = suc depth
-depth_after depth piece.Else = depth
-depth_after depth (piece.Loop l) = suc depth
-depth_after depth piece.End = depth - 1
+unfoldable pub next_piece : List Open → List Token → Option (Piece × List Token)
+next_piece opens tokens =
+    if_else (after_mark 125 tokens) (closing opens) (if_else (after_mark 123 tokens) (λ left. Some (piece.Begin, left)) (statement tokens))
+
+abbrev pub but_one : List Open → List Open
+but_one [] = []
+but_one (one ∷ opens) = opens
+
+-- which blocks are open after a piece
+abbrev pub opens_after : Piece → List Open → List Open
+opens_after (piece.Assign x e) opens = opens
+opens_after (piece.Call c) opens = opens
+opens_after (piece.Return e) opens = opens
+opens_after (piece.Goto l) opens = opens
+opens_after (piece.If e) opens = InIf ∷ opens
+opens_after piece.Else opens = Plain ∷ but_one opens
+opens_after (piece.Loop l) opens = Plain ∷ opens
+opens_after piece.Begin opens = Labelled ∷ opens
+opens_after (piece.Ended l) opens = but_one opens
+opens_after (piece.Catch k r) opens = Plain ∷ opens
+opens_after piece.Protect opens = Protected ∷ opens
+opens_after piece.Cleanup opens = Plain ∷ but_one opens
+opens_after piece.End opens = but_one opens
 
 -- the closing brace of the function
-abbrev pub after_body : ℕ → List Token → Option (List Token)
-after_body depth tokens = if nat_eq depth 0 then after_mark 125 tokens else None
+abbrev pub after_body : List Open → List Token → Option (List Token)
+after_body [] tokens = after_mark 125 tokens
+after_body (one ∷ opens) tokens = None
 
--- pieces until the function's closing brace, at most so many, where so many blocks are open
-unfoldable pub pieces_within : ℕ → ℕ → List Token → Option (List Piece × List Token)
-pieces_within zero depth tokens = None
-pieces_within (suc most) depth tokens =
-    if_else (after_body depth tokens) (λ left. Some ([], left)) (after (next_piece tokens) (λ p rest. onto (p ∷ []) (pieces_within most (depth_after depth p) rest)))
+-- pieces until the function's closing brace, at most so many, where these blocks are open
+unfoldable pub pieces_within : ℕ → List Open → List Token → Option (List Piece × List Token)
+pieces_within zero opens tokens = None
+pieces_within (suc most) opens tokens =
+    if_else (after_body opens tokens) (λ left. Some ([], left)) (after (next_piece opens tokens) (λ p rest. onto (p ∷ []) (pieces_within most (opens_after p opens) rest)))
 
 unfoldable pub all_pieces : List Token → Option (List Piece × List Token)
-all_pieces tokens = pieces_within (suc (length tokens)) 0 tokens
+all_pieces tokens = pieces_within (suc (length tokens)) [] tokens
 
 -- a function's statements, to its closing brace
 unfoldable pub body : List Token → Option (Code × List Token)
@@ -186,8 +225,22 @@ unfoldable pub item_rest : CTy → List ℕ → List Token → Option (Item × L
 item_rest t name tokens =
     if is_first is_void tokens then after (word_first tokens) (λ w rest. on_rest (after_mark 41 rest) (without_params t name)) else with_params t name tokens
 
+-- after `extern`
+unfoldable pub external_rest : List Token → Option (Item × List Token)
+external_rest tokens =
+    after (type_first tokens) (λ t rest. after (named is_global_name rest) (λ x more. on_rest (after_mark 59 more) (λ left. Some (external (record { ty = t; name = x }), left))))
+
+-- after a type and a name
+unfoldable pub item_named : CTy → List ℕ → List Token → Option (Item × List Token)
+item_named t name tokens =
+    if is_global_name name then on_rest (after_mark 59 tokens) (λ left. Some (global (record { ty = t; name = name }), left))
+    else (if is_function_name name then on_rest (after_mark 40 tokens) (item_rest t name) else None)
+
+unfoldable pub typed_item : List Token → Option (Item × List Token)
+typed_item tokens = after (type_first tokens) (λ t rest. after (word_first rest) (λ name more. item_named t name more))
+
 unfoldable pub item : List Token → Option (Item × List Token)
-item tokens = after (type_first tokens) (λ t a. after (named is_function_name a) (λ name b. on_rest (after_mark 40 b) (item_rest t name)))
+item tokens = if is_first is_extern tokens then on_rest (after_text (codes "extern") tokens) external_rest else typed_item tokens
 
 abbrev pub at_end : List Token → Option (List Token)
 at_end [] = Some []

@@ -1,14 +1,10 @@
 -- What code that scans a text gives, as lexemes and their parts.
-use Rattle.std.specs.Prelude.{◌≡◌, ℕ, ◌+◌, List, [], ◌∷◌, ◌++◌, Bool, true, false, ◌&&◌, if◌then◌else◌, Option, Some, None, Result, Ok, Err}
-use Rattle.c_tree.specs.declared.tree.Token.{Token}
-use Rattle.c_tree.specs.declared.tree.Token.TheVariants.{Word, Mark, Str, Bad}
-use Rattle.c_tree.specs.Lexical.{is_octal, is_coded, octal_value, Spelled, Quoted, Lexeme, Lexed, Gap, tokens}
+use Rattle.std.specs.Prelude.{ℕ, ◌+◌, List, [], ◌∷◌, ◌++◌, ◌&&◌, if◌then◌else◌, Option, Some, None}
+use Rattle.c_tree.specs.Lexical.{Bad, is_octal, is_coded, octal_value, Spelled, Quoted, Lexeme, Lexed, Gap, lexeme}
 use Rattle.c_read.specs.declared.lex.StringByte.{StringByte}
 use Rattle.c_read.specs.declared.lex.Quote.{Quote}
 use Rattle.c_read.specs.declared.lex.Scan.{Scan}
 use Rattle.c_read.specs.declared.lex.Scan.TheVariants as scan
-use Rattle.c_read.specs.declared.read.CReadErr.{CReadErr}
-use Rattle.c_read.specs.declared.read.CReadErr.TheVariants.{NotC, Memory}
 
 abbrev pub octal_byte : ℕ → ℕ → ℕ → Option ℕ
 octal_byte a b c = if is_octal a && (is_octal b && (is_octal c && is_coded (octal_value a b c))) then Some (octal_value a b c) else None
@@ -26,22 +22,28 @@ abbrev pub quoted_onto : List ℕ → ℕ → Option Quoted → Option Quoted
 quoted_onto bytes size None = None
 quoted_onto bytes size (Some q) = Some (record { bytes = bytes ++ q.bytes; size = size + q.size })
 
+-- so many bytes before
+abbrev pub comment_onto : ℕ → Option ℕ → Option ℕ
+comment_onto size None = None
+comment_onto size (Some n) = Some (size + n)
+
 abbrev pub lexeme_of : Scan → Lexeme
-lexeme_of scan.Gap = Gap
-lexeme_of scan.Wrong = Lexed Bad 0
+lexeme_of (scan.Gap more) = Gap more
 lexeme_of (scan.Lexed t more) = Lexed t more
 
-abbrev pub is_bad : Token → Bool
-is_bad Bad = true
-is_bad (Word w) = false
-is_bad (Mark m) = false
-is_bad (Str text) = false
+abbrev pub more_of : Scan → ℕ
+more_of (scan.Gap more) = more
+more_of (scan.Lexed t more) = more
 
-abbrev pub has_bad : List Token → Bool
-has_bad [] = false
-has_bad (t ∷ ts) = if is_bad t then true else has_bad ts
+abbrev pub lexeme_at : List ℕ → Lexeme
+lexeme_at [] = Lexed Bad 0
+lexeme_at (b ∷ bs) = lexeme b bs
 
-abbrev pub GivesTokens : List ℕ → Result (List Token) CReadErr → Type 0
-GivesTokens bytes (Ok ts) = tokens bytes ≡ ts
-GivesTokens bytes (Err NotC) = has_bad (tokens bytes) ≡ true
-GivesTokens bytes (Err Memory) = Unit {0}
+abbrev pub size_in : Option Quoted → Option ℕ
+size_in None = None
+size_in (Some q) = Some q.size
+
+-- so many bytes before
+abbrev pub size_onto : ℕ → Option Quoted → Option ℕ
+size_onto size None = None
+size_onto size (Some q) = Some (size + q.size)

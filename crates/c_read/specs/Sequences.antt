@@ -1,9 +1,10 @@
 -- Readers of tokens as functions: what is read from the front, with the tokens that are left; none where that can't be read.
 use Rattle.std.specs.Prelude.{◌≡◌, ℕ, zero, suc, List, [], ◌∷◌, ◌++◌, length, nat_eq, Bool, false, if◌then◌else◌, Option, Some, None, Result, Ok, Err}
-use Rattle.c_tree.specs.declared.tree.Token.{Token}
-use Rattle.c_tree.specs.declared.tree.Token.TheVariants.{Word, Mark, Str, Bad}
-use Rattle.c_read.specs.declared.read.CReadErr.{CReadErr}
-use Rattle.c_read.specs.declared.read.CReadErr.TheVariants.{NotC, Memory}
+use Rattle.std.specs.Borrow.{Bor}
+use Rattle.scheme_data.specs.Names.{is_same}
+use Rattle.c_tree.specs.Lexical.{Token, Word, Mark, Str, Bad}
+use Rattle.c_read.specs.declared.stop.Stop.{Stop}
+use Rattle.c_read.specs.declared.stop.Stop.TheVariants.{Wrong, Memory}
 
 abbrev pub front : {X : Type 0} → List X → Option X
 front [] = None
@@ -26,30 +27,37 @@ abbrev pub if_else : {X Y : Type 0} → Option X → (X → Y) → Y → Y
 if_else None found other = other
 if_else (Some x) found other = found x
 
+abbrev pub is_that_mark : ℕ → Token → Bool
+is_that_mark mark (Mark m) = nat_eq m mark
+is_that_mark mark (Word w) = false
+is_that_mark mark (Str text) = false
+is_that_mark mark Bad = false
+
+abbrev pub word_of : Token → Option (List ℕ)
+word_of (Word w) = Some w
+word_of (Mark m) = None
+word_of (Str text) = None
+word_of Bad = None
+
 abbrev pub after_mark : ℕ → List Token → Option (List Token)
 after_mark mark [] = None
-after_mark mark (Mark m ∷ rest) = if nat_eq m mark then Some rest else None
-after_mark mark (Word w ∷ rest) = None
-after_mark mark (Str text ∷ rest) = None
-after_mark mark (Bad ∷ rest) = None
+after_mark mark (t ∷ rest) = if is_that_mark mark t then Some rest else None
 
 abbrev pub word_first : List Token → Option (List ℕ × List Token)
 word_first [] = None
-word_first (Word w ∷ rest) = Some (w, rest)
-word_first (Mark m ∷ rest) = None
-word_first (Str text ∷ rest) = None
-word_first (Bad ∷ rest) = None
+word_first (t ∷ rest) = read_as (word_of t) rest
 
 abbrev pub first_word : List Token → Option (List ℕ)
 first_word [] = None
-first_word (Word w ∷ rest) = Some w
-first_word (Mark m ∷ rest) = None
-first_word (Str text ∷ rest) = None
-first_word (Bad ∷ rest) = None
+first_word (t ∷ rest) = word_of t
 
 -- whether a word is next that a test allows
 abbrev pub is_first : (List ℕ → Bool) → List Token → Bool
 is_first allowed tokens = if_else (first_word tokens) allowed false
+
+-- this very word
+abbrev pub after_text : List ℕ → List Token → Option (List Token)
+after_text text tokens = after (word_first tokens) (λ w rest. if is_same w text then Some rest else None)
 
 -- a word that a test allows
 abbrev pub named : (List ℕ → Bool) → List Token → Option (List ℕ × List Token)
@@ -70,18 +78,28 @@ unfoldable pub all : {X : Type 0} → (List Token → Option (X × List Token)) 
 all one end tokens = many one end (suc (length tokens)) tokens
 
 -- what code that takes tokens off answers
-abbrev pub Took : {X : Type 0} → Option (X × List Token) → Result X CReadErr → List Token → Type 0
+abbrev pub Took : {X : Type 0} → Option (X × List Token) → Result X Stop → List Token → Type 0
 Took read (Ok x) left = read ≡ Some (x, left)
-Took read (Err NotC) left = read ≡ None
+Took read (Err Wrong) left = read ≡ None
 Took read (Err Memory) left = Unit {0}
 
+-- the value of what is lent
+abbrev pub lent : Bor (List ℕ) → List ℕ
+lent bytes = bytes.now
+
+-- what code answers that finds what a word is
+abbrev pub Finds : {X : Type 0} → Option X → Result X Stop → Type 0
+Finds found (Ok x) = found ≡ Some x
+Finds found (Err Wrong) = found ≡ None
+Finds found (Err Memory) = Unit {0}
+
 -- the same, where what is read is a view of what is answered
-abbrev pub TookAs : {X Y : Type 0} → (Y → X) → Option (X × List Token) → Result Y CReadErr → List Token → Type 0
+abbrev pub TookAs : {X Y : Type 0} → (Y → X) → Option (X × List Token) → Result Y Stop → List Token → Type 0
 TookAs view read (Ok y) left = read ≡ Some (view y, left)
-TookAs view read (Err NotC) left = read ≡ None
+TookAs view read (Err Wrong) left = read ≡ None
 TookAs view read (Err Memory) left = Unit {0}
 
-abbrev pub Skipped : {X : Type 0} → Option (List Token) → Result X CReadErr → List Token → Type 0
+abbrev pub Skipped : {X : Type 0} → Option (List Token) → Result X Stop → List Token → Type 0
 Skipped read (Ok x) left = read ≡ Some left
-Skipped read (Err NotC) left = read ≡ None
+Skipped read (Err Wrong) left = read ≡ None
 Skipped read (Err Memory) left = Unit {0}

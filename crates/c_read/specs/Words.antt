@@ -11,7 +11,7 @@ use Rattle.c_tree.specs.declared.tree.CAtom.TheVariants as atom
 use Rattle.c_tree.specs.declared.tree.Callee.{Callee}
 use Rattle.c_tree.specs.declared.tree.Callee.TheVariants as callee
 use Rattle.c_tree.specs.Operations.{op_named}
-use Rattle.c_tree.specs.Names.{is_function_name, is_local_name}
+use Rattle.c_tree.specs.Names.{is_function_name, is_variable_name, is_symbol_name}
 
 unfoldable pub type_of : List ℕ → Option CTy
 type_of word =
@@ -43,8 +43,12 @@ abbrev pub or_number : Option CAtom → Option ℤ → Option CAtom
 or_number None number = option_map atom.Int number
 or_number (Some a) number = Some a
 
+-- the atom of a word that names no variable
+unfoldable pub value_of : List ℕ → Option CAtom
+value_of word = if is_symbol_name word then Some (atom.Sym word) else or_number (constant_of word) (number_of word)
+
 unfoldable pub atom_of : List ℕ → Option CAtom
-atom_of word = if is_local_name word then Some (atom.Name word) else or_number (constant_of word) (number_of word)
+atom_of word = if is_variable_name word then Some (atom.Name word) else value_of word
 
 unfoldable pub callee_of : List ℕ → Option Callee
 callee_of word = if is_function_name word then Some (callee.Fun word) else option_map callee.Op (op_named word)
@@ -55,5 +59,14 @@ is_return word = is_same word (codes "return")
 abbrev pub is_if : List ℕ → Bool
 is_if word = is_same word (codes "if")
 
-abbrev pub is_else : List ℕ → Bool
-is_else word = is_same word (codes "else")
+abbrev pub is_goto : List ℕ → Bool
+is_goto word = is_same word (codes "goto")
+
+abbrev pub is_catch : List ℕ → Bool
+is_catch word = is_same word (codes "BGL_CATCH")
+
+abbrev pub is_protect : List ℕ → Bool
+is_protect word = is_same word (codes "BGL_PROTECT")
+
+abbrev pub is_extern : List ℕ → Bool
+is_extern word = is_same word (codes "extern")

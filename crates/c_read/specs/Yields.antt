@@ -8,19 +8,18 @@ use Rattle.c_tree.specs.declared.tree.CVar.{CVar}
 use Rattle.c_tree.specs.declared.pieces.Piece.{Piece}
 use Rattle.c_tree.specs.declared.laying.Layout.{Layout}
 use Rattle.c_tree.specs.declared.function.CItem.{CItem}
-use Rattle.c_tree.specs.declared.tree.Token.{Token}
-use Rattle.c_tree.specs.declared.tree.Token.TheVariants.{Word, Mark}
+use Rattle.c_tree.specs.Lexical.{Token, Word, Mark}
 use Rattle.c_tree.specs.Names.{is_function_name, is_local_name}
 use Rattle.c_tree.specs.Code.{Code}
 use Rattle.c_tree.specs.Layout.{code_of}
 use Rattle.c_tree.specs.Functions.{item_of, items_of}
-use Rattle.c_tree.specs.Spelling.{type_text, argument_token, argument_tokens, call_tokens, expr_tokens, code_tokens, piece_tokens, pieces_tokens, param_tokens, local_tokens, item_tokens, items_tokens, NamedArgument, NamedArguments, NamedCall, NamedExpr, NamedCode, NamedPiece, NamedPieces, NamedVars, NamedItem, NamedItems}
+use Rattle.c_tree.specs.Spelling.{type_text, argument_tokens_of, argument_tokens, call_tokens, expr_tokens, code_tokens, piece_tokens, pieces_tokens, param_tokens, local_tokens, item_tokens, items_tokens, NamedArgument, NamedArguments, NamedCall, NamedExpr, NamedCode, NamedPiece, NamedPieces, NamedVars, NamedItem, NamedItems}
 
 abbrev pub YieldsArgument : List Token → CArg → List Token → Type 0
-YieldsArgument old a left = (old ≡ argument_token a ∷ left) × NamedArgument a
+YieldsArgument old a left = (old ≡ argument_tokens_of a left) × NamedArgument a
 
 abbrev pub YieldsNext : List Token → CArg → List Token → Type 0
-YieldsNext old a left = (old ≡ Mark 44 ∷ argument_token a ∷ left) × NamedArgument a
+YieldsNext old a left = (old ≡ Mark 44 ∷ argument_tokens_of a left) × NamedArgument a
 
 abbrev pub YieldsArguments : List Token → List CArg → List Token → Type 0
 YieldsArguments old args left = (old ≡ argument_tokens args left) × NamedArguments args
@@ -62,6 +61,10 @@ abbrev pub YieldsDefinition : CTy → List ℕ → List CVar → List Token → 
 YieldsDefinition t name params old i left =
     (Word (type_text t) ∷ Word name ∷ Mark 40 ∷ param_tokens params (Mark 41 ∷ Mark 123 ∷ old) ≡ item_tokens (item_of i) left)
     × (IsTrue (is_function_name name) → NamedVars params → NamedItem (item_of i))
+
+-- an item that begins with a type and a name
+abbrev pub YieldsNamed : CTy → List ℕ → List Token → CItem → List Token → Type 0
+YieldsNamed t name old i left = (Word (type_text t) ∷ Word name ∷ old ≡ item_tokens (item_of i) left) × NamedItem (item_of i)
 
 abbrev pub YieldsItem : List Token → CItem → List Token → Type 0
 YieldsItem old i left = (old ≡ item_tokens (item_of i) left) × NamedItem (item_of i)

@@ -1,8 +1,9 @@
 // Statements, piece by piece.
 ghost use Rattle.std.specs.Prelude.{◌≡◌, ◌∷◌, MatchBool, IfOk, OnOk, codes};
-ghost use Rattle.c_tree.specs.declared.tree.Token.TheVariants.{Word, Mark};
+ghost use Rattle.c_tree.specs.Lexical.{Word, Mark};
 ghost use Rattle.c_read.specs.Yields.{YieldsPiece, YieldsPieces, YieldsBody, laid_code, head_tokens};
-ghost use Rattle.c_read.specs.Sequences.{Took, TookAs, Skipped};
+ghost use Rattle.c_read.specs.Sequences.{front, Took, TookAs, Skipped};
+ghost use Rattle.c_read.specs.declared.bodies.Open.TheVariants as Open;
 ghost use Rattle.c_read.specs.Productions.{
   returned,
   assigned,
@@ -11,24 +12,39 @@ ghost use Rattle.c_read.specs.Productions.{
   after_head,
   looped,
   named_statement,
+  jump,
+  catching,
+  protecting,
+  rarer_statement,
   statement,
-  closing,
+  closing_of,
   next_piece,
-  depth_after,
+  but_one,
+  opens_after,
   after_body,
   all_pieces,
   body,
 };
 
 use crate::calls::{read_call, read_expression};
-use crate::read::CReadErr;
-use crate::skips::{is_else_next, skip, skip_for, took, word};
+use crate::skips::{end_label_name, local_name, skip, skip_text, target_name, took, word};
+use crate::stop::Stop;
+use crate::tokens::Tokens;
 use crate::words::has_text;
-use c_tree::{Layout, Piece, Token, lay_out, names_label, names_local};
+use c_tree::{Layout, Piece, lay_out, names_label, names_variable};
 use scheme_data::{List, OutOfMemory, Stack, Text};
 use std::alloc::Global;
 
-fn read_returned(alloc: Global, tokens: &mut Stack<Token>) -> Result<Piece, CReadErr>
+/// A block that is open, by what its closing brace goes on with: nothing, `else {`, a label, or `{`.
+#[derive(Clone, Copy, Debug, PartialEq, Eq)]
+pub enum Open {
+    Plain,
+    InIf,
+    Labelled,
+    Protected,
+}
+
+fn read_returned(alloc: Global, tokens: &mut Tokens<'_>) -> Result<Piece, Stop>
     ensures read { Took (returned tokens.old) result tokens.new }
     ensures spelled { IfOk result (λ x. YieldsPiece (Word (codes "return") ∷ tokens.old) x tokens.new) }
 {
@@ -38,7 +54,7 @@ fn read_returned(alloc: Global, tokens: &mut Stack<Token>) -> Result<Piece, CRea
 }
 
 #[tactic(auto, unfolding(crate::specs::Productions::condition))]
-fn read_condition(alloc: Global, tokens: &mut Stack<Token>) -> Result<Piece, CReadErr>
+fn read_condition(alloc: Global, tokens: &mut Tokens<'_>) -> Result<Piece, Stop>
     ensures read { Took (condition tokens.old) result tokens.new }
     ensures spelled { IfOk result (λ x. YieldsPiece (Word (codes "if") ∷ tokens.old) x tokens.new) }
 {
@@ -49,24 +65,25 @@ fn read_condition(alloc: Global, tokens: &mut Stack<Token>) -> Result<Piece, CRe
     Ok(Piece::If(value))
 }
 
-fn read_assigned(alloc: Global, tokens: &mut Stack<Token>, word: Text) -> Result<Piece, CReadErr>
-    ensures read { Took (assigned word tokens.old) result tokens.new }
-    ensures spelled { IfOk result (λ x. YieldsPiece (Word word ∷ Mark 61 ∷ tokens.old) x tokens.new) }
+fn read_assigned(alloc: Global, tokens: &mut Tokens<'_>, word: &[u8]) -> Result<Piece, Stop>
+    ensures read { Took (assigned word.now tokens.old) result tokens.new }
+    ensures spelled { IfOk result (λ x. YieldsPiece (Word word.now ∷ Mark 61 ∷ tokens.old) x tokens.new) }
 {
-    if !names_local(word.as_bytes()) {
-        return Err(CReadErr::NotC);
+    if !names_variable(word) {
+        return Err(Stop::Wrong);
     }
     let value = read_expression(alloc, tokens)?;
     skip(tokens, b';')?;
-    Ok(Piece::Assign(word, value))
+    let name = Text::from_bytes(alloc, word)?;
+    Ok(Piece::Assign(name, value))
 }
 
 #[tactic(auto, unfolding(crate::specs::Productions::after_head))]
-fn skip_head(tokens: &mut Stack<Token>) -> Result<(), CReadErr>
+fn skip_head(tokens: &mut Tokens<'_>) -> Result<(), Stop>
     ensures read { Skipped (after_head tokens.old) result tokens.new }
     ensures spelled { OnOk result (tokens.old ≡ head_tokens tokens.new) }
 {
-    skip_for(tokens)?;
+    skip_text(tokens, b"for")?;
     skip(tokens, b'(')?;
     skip(tokens, b';')?;
     skip(tokens, b';')?;
@@ -74,20 +91,21 @@ fn skip_head(tokens: &mut Stack<Token>) -> Result<(), CReadErr>
     skip(tokens, b'{')
 }
 
-fn read_looped(tokens: &mut Stack<Token>, word: Text) -> Result<Piece, CReadErr>
-    ensures read { Took (looped word tokens.old) result tokens.new }
-    ensures spelled { IfOk result (λ x. YieldsPiece (Word word ∷ Mark 58 ∷ tokens.old) x tokens.new) }
+fn read_looped(alloc: Global, tokens: &mut Tokens<'_>, word: &[u8]) -> Result<Piece, Stop>
+    ensures read { Took (looped word.now tokens.old) result tokens.new }
+    ensures spelled { IfOk result (λ x. YieldsPiece (Word word.now ∷ Mark 58 ∷ tokens.old) x tokens.new) }
 {
-    if !names_label(word.as_bytes()) {
-        return Err(CReadErr::NotC);
+    if !names_label(word) {
+        return Err(Stop::Wrong);
     }
     skip_head(tokens)?;
-    Ok(Piece::Loop(word))
+    let name = Text::from_bytes(alloc, word)?;
+    Ok(Piece::Loop(name))
 }
 
-fn read_called(alloc: Global, tokens: &mut Stack<Token>, word: Text) -> Result<Piece, CReadErr>
-    ensures read { Took (called word tokens.old) result tokens.new }
-    ensures spelled { IfOk result (λ x. YieldsPiece (Word word ∷ tokens.old) x tokens.new) }
+fn read_called(alloc: Global, tokens: &mut Tokens<'_>, word: &[u8]) -> Result<Piece, Stop>
+    ensures read { Took (called word.now tokens.old) result tokens.new }
+    ensures spelled { IfOk result (λ x. YieldsPiece (Word word.now ∷ tokens.old) x tokens.new) }
 {
     skip(tokens, b'(')?;
     let call = read_call(alloc, tokens, word)?;
@@ -96,90 +114,200 @@ fn read_called(alloc: Global, tokens: &mut Stack<Token>, word: Text) -> Result<P
 }
 
 #[tactic(auto, unfolding(crate::specs::Productions::named_statement))]
-fn read_named(alloc: Global, tokens: &mut Stack<Token>, word: Text) -> Result<Piece, CReadErr>
-    ensures read { Took (named_statement word tokens.old) result tokens.new }
-    ensures spelled { IfOk result (λ x. YieldsPiece (Word word ∷ tokens.old) x tokens.new) }
+fn read_named(alloc: Global, tokens: &mut Tokens<'_>, word: &[u8]) -> Result<Piece, Stop>
+    ensures read { Took (named_statement word.now tokens.old) result tokens.new }
+    ensures spelled { IfOk result (λ x. YieldsPiece (Word word.now ∷ tokens.old) x tokens.new) }
 {
     if took(tokens, b'=') {
         return read_assigned(alloc, tokens, word);
     }
     if took(tokens, b':') {
-        return read_looped(tokens, word);
+        return read_looped(alloc, tokens, word);
     }
     read_called(alloc, tokens, word)
 }
 
-#[tactic(auto, unfolding(crate::specs::Productions::statement))]
-fn read_statement(alloc: Global, tokens: &mut Stack<Token>) -> Result<Piece, CReadErr>
-    ensures read { Took (statement tokens.old) result tokens.new }
-    ensures spelled { IfOk result (λ x. YieldsPiece tokens.old x tokens.new) }
+#[tactic(auto, unfolding(crate::specs::Productions::jump))]
+fn read_jump(alloc: Global, tokens: &mut Tokens<'_>) -> Result<Piece, Stop>
+    ensures read { Took (jump tokens.old) result tokens.new }
+    ensures spelled { IfOk result (λ x. YieldsPiece (Word (codes "goto") ∷ tokens.old) x tokens.new) }
 {
-    let word = word(tokens)?;
-    if has_text(word.as_bytes(), b"return") {
-        return read_returned(alloc, tokens);
+    let label = target_name(alloc, tokens)?;
+    skip(tokens, b';')?;
+    Ok(Piece::Goto(label))
+}
+
+#[tactic(auto, unfolding(crate::specs::Productions::catching))]
+fn read_catching(alloc: Global, tokens: &mut Tokens<'_>) -> Result<Piece, Stop>
+    ensures read { Took (catching tokens.old) result tokens.new }
+    ensures spelled { IfOk result (λ x. YieldsPiece (Word (codes "BGL_CATCH") ∷ tokens.old) x tokens.new) }
+{
+    skip(tokens, b'(')?;
+    let exit = local_name(alloc, tokens)?;
+    skip(tokens, b',')?;
+    let carried = local_name(alloc, tokens)?;
+    skip(tokens, b')')?;
+    skip(tokens, b'{')?;
+    Ok(Piece::Catch(exit, carried))
+}
+
+fn read_protecting(tokens: &mut Tokens<'_>) -> Result<Piece, Stop>
+    ensures read { Took (protecting tokens.old) result tokens.new }
+    ensures spelled { IfOk result (λ x. YieldsPiece (Word (codes "BGL_PROTECT") ∷ tokens.old) x tokens.new) }
+{
+    skip(tokens, b'{')?;
+    Ok(Piece::Protect)
+}
+
+fn read_rarer(alloc: Global, tokens: &mut Tokens<'_>, word: &[u8]) -> Result<Piece, Stop>
+    ensures read { Took (rarer_statement word.now tokens.old) result tokens.new }
+    ensures spelled { IfOk result (λ x. YieldsPiece (Word word.now ∷ tokens.old) x tokens.new) }
+{
+    if has_text(word, b"goto") {
+        return read_jump(alloc, tokens);
     }
-    if has_text(word.as_bytes(), b"if") {
-        return read_condition(alloc, tokens);
+    if has_text(word, b"BGL_CATCH") {
+        return read_catching(alloc, tokens);
+    }
+    if has_text(word, b"BGL_PROTECT") {
+        return read_protecting(tokens);
     }
     read_named(alloc, tokens, word)
 }
 
-// `else` goes on with the `if` whose block the brace before it closes.
-#[tactic(auto, unfolding(crate::specs::Productions::closing))]
-fn read_closing(tokens: &mut Stack<Token>) -> Result<Piece, CReadErr>
-    ensures read { Took (closing tokens.old) result tokens.new }
+#[tactic(auto, unfolding(crate::specs::Productions::statement))]
+fn read_statement(alloc: Global, tokens: &mut Tokens<'_>) -> Result<Piece, Stop>
+    ensures read { Took (statement tokens.old) result tokens.new }
+    ensures spelled { IfOk result (λ x. YieldsPiece tokens.old x tokens.new) }
+{
+    let word = word(tokens)?;
+    if has_text(word, b"return") {
+        return read_returned(alloc, tokens);
+    }
+    if has_text(word, b"if") {
+        return read_condition(alloc, tokens);
+    }
+    read_rarer(alloc, tokens, word)
+}
+
+#[tactic(auto, unfolding(crate::specs::Productions::closing_of))]
+fn read_else(tokens: &mut Tokens<'_>) -> Result<Piece, Stop>
+    ensures read { Took (closing_of Open.InIf tokens.old) result tokens.new }
     ensures spelled { IfOk result (λ x. YieldsPiece (Mark 125 ∷ tokens.old) x tokens.new) }
 {
-    if !is_else_next(tokens) {
-        return Ok(Piece::End);
-    }
-    let _ = word(tokens)?;
+    skip_text(tokens, b"else")?;
     skip(tokens, b'{')?;
     Ok(Piece::Else)
 }
 
+#[tactic(auto, unfolding(crate::specs::Productions::closing_of))]
+fn read_ended(alloc: Global, tokens: &mut Tokens<'_>) -> Result<Piece, Stop>
+    ensures read { Took (closing_of Open.Labelled tokens.old) result tokens.new }
+    ensures spelled { IfOk result (λ x. YieldsPiece (Mark 125 ∷ tokens.old) x tokens.new) }
+{
+    let label = end_label_name(alloc, tokens)?;
+    skip(tokens, b':')?;
+    skip(tokens, b';')?;
+    Ok(Piece::Ended(label))
+}
+
+#[tactic(auto, unfolding(crate::specs::Productions::closing_of))]
+fn read_cleanup(tokens: &mut Tokens<'_>) -> Result<Piece, Stop>
+    ensures read { Took (closing_of Open.Protected tokens.old) result tokens.new }
+    ensures spelled { IfOk result (λ x. YieldsPiece (Mark 125 ∷ tokens.old) x tokens.new) }
+{
+    skip(tokens, b'{')?;
+    Ok(Piece::Cleanup)
+}
+
+// What a closing brace goes on with is decided by the block that it closes.
+#[tactic(auto, unfolding(crate::specs::Productions::closing_of))]
+fn read_closing(alloc: Global, tokens: &mut Tokens<'_>, block: Open) -> Result<Piece, Stop>
+    ensures read { Took (closing_of block tokens.old) result tokens.new }
+    ensures spelled { IfOk result (λ x. YieldsPiece (Mark 125 ∷ tokens.old) x tokens.new) }
+{
+    match block {
+        Open::Plain => Ok(Piece::End),
+        Open::InIf => read_else(tokens),
+        Open::Labelled => read_ended(alloc, tokens),
+        Open::Protected => read_cleanup(tokens),
+    }
+}
+
 #[tactic(auto, unfolding(crate::specs::Productions::next_piece))]
-fn read_piece(alloc: Global, tokens: &mut Stack<Token>) -> Result<Piece, CReadErr>
-    ensures read { Took (next_piece tokens.old) result tokens.new }
+fn read_piece(alloc: Global, opens: &Stack<Open>, tokens: &mut Tokens<'_>) -> Result<Piece, Stop>
+    ensures read { Took (next_piece opens.now tokens.old) result tokens.new }
     ensures spelled { IfOk result (λ x. YieldsPiece tokens.old x tokens.new) }
 {
     if took(tokens, b'}') {
-        return read_closing(tokens);
+        return match innermost(opens) {
+            Some(block) => read_closing(alloc, tokens, block),
+            None => Err(Stop::Wrong),
+        };
+    }
+    if took(tokens, b'{') {
+        return Ok(Piece::Begin);
     }
     read_statement(alloc, tokens)
 }
 
-// How many blocks are open after a piece. Where none is, no piece is an `End`: the brace there is the function's own.
-fn next_depth(depth: u64, piece: &Piece) -> Result<u64, OutOfMemory>
-    ensures { IfOk result (λ n. n ≡ depth_after depth piece.now) }
+fn innermost(opens: &Stack<Open>) -> Option<Open>
+    ensures { result ≡ front opens.now }
+{
+    opens.top().copied()
+}
+
+fn leave(opens: &mut Stack<Open>)
+    ensures { opens.new ≡ but_one opens.old }
+{
+    let _ = opens.pop();
+}
+
+fn leave_for_another(opens: &mut Stack<Open>) -> Result<(), OutOfMemory>
+    ensures { OnOk result (opens.new ≡ Open.Plain ∷ but_one opens.old) }
+{
+    leave(opens);
+    opens.push(Open::Plain)
+}
+
+// Which blocks are open after a piece. Where none is, no piece is an end: the brace there is the function's own.
+fn pass(opens: &mut Stack<Open>, piece: &Piece) -> Result<(), OutOfMemory>
+    ensures { OnOk result (opens.new ≡ opens_after piece.now opens.old) }
 {
     match piece {
-        Piece::If(_) | Piece::Loop(_) => depth.checked_add(1).ok_or(OutOfMemory),
-        Piece::End => Ok(depth.saturating_sub(1)),
-        _ => Ok(depth),
+        Piece::Assign(_, _) | Piece::Call(_) | Piece::Return(_) | Piece::Goto(_) => Ok(()),
+        Piece::If(_) => opens.push(Open::InIf),
+        Piece::Loop(_) | Piece::Catch(_, _) => opens.push(Open::Plain),
+        Piece::Begin => opens.push(Open::Labelled),
+        Piece::Protect => opens.push(Open::Protected),
+        Piece::Else | Piece::Cleanup => leave_for_another(opens),
+        Piece::Ended(_) | Piece::End => {
+            leave(opens);
+            Ok(())
+        }
     }
 }
 
 // Takes the closing brace of the function, if it is next.
-fn took_end(tokens: &mut Stack<Token>, depth: u64) -> bool
-    ensures { MatchBool result ((after_body depth tokens.old ≡ Some tokens.new) × (tokens.old ≡ Mark 125 ∷ tokens.new)) ((after_body depth tokens.old ≡ None) × (tokens.new ≡ tokens.old)) }
+fn took_end(tokens: &mut Tokens<'_>, opens: &Stack<Open>) -> bool
+    ensures { MatchBool result ((after_body opens.now tokens.old ≡ Some tokens.new) × (tokens.old ≡ Mark 125 ∷ tokens.new)) ((after_body opens.now tokens.old ≡ None) × (tokens.new ≡ tokens.old)) }
 {
-    if depth != 0 {
+    if !opens.is_empty() {
         return false;
     }
     took(tokens, b'}')
 }
 
-// Keeps only how many blocks are open, since which piece belongs to which is for `lay_out` to find.
-fn read_pieces(alloc: Global, tokens: &mut Stack<Token>) -> Result<List<Piece>, CReadErr>
+// Keeps which blocks are open; which piece belongs to which is for `lay_out` to find.
+fn read_pieces(alloc: Global, tokens: &mut Tokens<'_>) -> Result<List<Piece>, Stop>
     ensures read { Took (all_pieces tokens.old) result tokens.new }
     ensures spelled { IfOk result (λ ps. YieldsPieces tokens.old ps (Mark 125 ∷ tokens.new)) }
 {
     let mut pieces = List::new(alloc);
-    let mut depth = 0;
-    while !took_end(tokens, depth) {
-        let piece = read_piece(alloc, tokens)?;
-        depth = next_depth(depth, &piece)?;
+    let mut opens = Stack::new(alloc);
+    while !took_end(tokens, &opens) {
+        let piece = read_piece(alloc, &opens, tokens)?;
+        pass(&mut opens, &piece)?;
         pieces.push(piece)?;
     }
     Ok(pieces)
@@ -187,13 +315,13 @@ fn read_pieces(alloc: Global, tokens: &mut Stack<Token>) -> Result<List<Piece>, 
 
 /// The statements of a function, to its closing brace.
 #[tactic(auto, unfolding(crate::specs::Productions::body))]
-pub fn read_body(alloc: Global, tokens: &mut Stack<Token>) -> Result<Layout, CReadErr>
+pub fn read_body(alloc: Global, tokens: &mut Tokens<'_>) -> Result<Layout, Stop>
     ensures read { TookAs laid_code (body tokens.old) result tokens.new }
     ensures spelled { IfOk result (λ l. YieldsBody tokens.old l tokens.new) }
 {
     let pieces = read_pieces(alloc, tokens)?;
     match lay_out(alloc, pieces)? {
         Some(layout) => Ok(layout),
-        None => Err(CReadErr::NotC),
+        None => Err(Stop::Wrong),
     }
 }

@@ -1,10 +1,10 @@
 // Declarations and definitions.
 ghost use Rattle.std.specs.Prelude.{◌≡◌, ◌∷◌, [], IfOk, IsTrue, codes};
-ghost use Rattle.c_tree.specs.declared.tree.Token.TheVariants.{Word, Mark};
+ghost use Rattle.c_tree.specs.Lexical.{Word, Mark};
 ghost use Rattle.c_tree.specs.Names.{is_local_name};
 ghost use Rattle.c_tree.specs.Functions.{item_of, items_of};
 ghost use Rattle.c_tree.specs.Spelling.{type_text, type_tokens, param_tokens, NamedVars};
-ghost use Rattle.c_read.specs.Yields.{YieldsVar, YieldsLocals, YieldsDefinition, YieldsRest, YieldsItem, YieldsItems};
+ghost use Rattle.c_read.specs.Yields.{YieldsVar, YieldsLocals, YieldsDefinition, YieldsRest, YieldsNamed, YieldsItem, YieldsItems};
 ghost use Rattle.c_read.specs.Sequences.{Took, TookAs, onto, all, after_mark};
 ghost use Rattle.c_read.specs.Productions.{
   next_type,
@@ -18,22 +18,26 @@ ghost use Rattle.c_read.specs.Productions.{
   with_names,
   with_params,
   item_rest,
+  external_rest,
+  item_named,
+  typed_item,
   item,
   parsed,
 };
 
 use crate::bodies::read_body;
-use crate::read::CReadErr;
 use crate::skips::{
-    function_name, is_type_next, is_void_next, is_word_next, local_name, skip, took, type_word,
-    word,
+    global_name, is_extern_next, is_type_next, is_void_next, is_word_next, local_name, skip,
+    skip_text, took, type_word, word,
 };
-use c_tree::{CFun, CItem, CTy, CVar, Layout, Token};
-use scheme_data::{List, Stack, Text};
+use crate::stop::Stop;
+use crate::tokens::Tokens;
+use c_tree::{CFun, CItem, CTy, CVar, Layout, names_function, names_global};
+use scheme_data::{List, Text};
 use std::alloc::Global;
 
 #[tactic(auto, unfolding(crate::specs::Productions::next_type))]
-fn read_next_type(tokens: &mut Stack<Token>) -> Result<CTy, CReadErr>
+fn read_next_type(tokens: &mut Tokens<'_>) -> Result<CTy, Stop>
     ensures read { Took (next_type tokens.old) result tokens.new }
     ensures spelled { IfOk result (λ t. tokens.old ≡ Mark 44 ∷ Word (type_text t) ∷ tokens.new) }
 {
@@ -41,7 +45,7 @@ fn read_next_type(tokens: &mut Stack<Token>) -> Result<CTy, CReadErr>
     type_word(tokens)
 }
 
-fn read_types(alloc: Global, tokens: &mut Stack<Token>, first: CTy) -> Result<List<CTy>, CReadErr>
+fn read_types(alloc: Global, tokens: &mut Tokens<'_>, first: CTy) -> Result<List<CTy>, Stop>
     ensures read { Took (onto (first ∷ []) (all next_type (after_mark 41) tokens.old)) result tokens.new }
     ensures spelled { IfOk result (λ ts. Word (type_text first) ∷ tokens.old ≡ type_tokens ts (Mark 41 ∷ tokens.new)) }
 {
@@ -55,58 +59,54 @@ fn read_types(alloc: Global, tokens: &mut Stack<Token>, first: CTy) -> Result<Li
 }
 
 #[tactic(auto, unfolding(crate::specs::Productions::variable))]
-fn read_variable(tokens: &mut Stack<Token>) -> Result<CVar, CReadErr>
+fn read_variable(alloc: Global, tokens: &mut Tokens<'_>) -> Result<CVar, Stop>
     ensures read { Took (variable tokens.old) result tokens.new }
     ensures spelled { IfOk result (λ x. YieldsVar tokens.old x tokens.new) }
 {
     let ty = type_word(tokens)?;
-    let name = local_name(tokens)?;
+    let name = local_name(alloc, tokens)?;
     Ok(CVar { ty, name })
 }
 
 #[tactic(auto, unfolding(crate::specs::Productions::next_variable))]
-fn read_next_variable(tokens: &mut Stack<Token>) -> Result<CVar, CReadErr>
+fn read_next_variable(alloc: Global, tokens: &mut Tokens<'_>) -> Result<CVar, Stop>
     ensures read { Took (next_variable tokens.old) result tokens.new }
     ensures spelled { IfOk result (λ v. (tokens.old ≡ Mark 44 ∷ Word (type_text v.ty) ∷ Word v.name ∷ tokens.new) × IsTrue (is_local_name v.name)) }
 {
     skip(tokens, b',')?;
-    read_variable(tokens)
+    read_variable(alloc, tokens)
 }
 
-fn read_params(
-    alloc: Global,
-    tokens: &mut Stack<Token>,
-    first: CVar,
-) -> Result<List<CVar>, CReadErr>
+fn read_params(alloc: Global, tokens: &mut Tokens<'_>, first: CVar) -> Result<List<CVar>, Stop>
     ensures read { Took (onto (first ∷ []) (all next_variable (after_mark 41) tokens.old)) result tokens.new }
     ensures spelled { IfOk result (λ vs. (Word (type_text first.ty) ∷ Word first.name ∷ tokens.old ≡ param_tokens vs (Mark 41 ∷ tokens.new)) × (IsTrue (is_local_name first.name) → NamedVars vs)) }
 {
     let mut params = List::new(alloc);
     params.push(first)?;
     while !took(tokens, b')') {
-        let param = read_next_variable(tokens)?;
+        let param = read_next_variable(alloc, tokens)?;
         params.push(param)?;
     }
     Ok(params)
 }
 
 #[tactic(auto, unfolding(crate::specs::Productions::local))]
-fn read_local(tokens: &mut Stack<Token>) -> Result<CVar, CReadErr>
+fn read_local(alloc: Global, tokens: &mut Tokens<'_>) -> Result<CVar, Stop>
     ensures read { Took (local tokens.old) result tokens.new }
     ensures spelled { IfOk result (λ x. YieldsVar tokens.old x (Mark 59 ∷ tokens.new)) }
 {
-    let var = read_variable(tokens)?;
+    let var = read_variable(alloc, tokens)?;
     skip(tokens, b';')?;
     Ok(var)
 }
 
-fn read_locals(alloc: Global, tokens: &mut Stack<Token>) -> Result<List<CVar>, CReadErr>
+fn read_locals(alloc: Global, tokens: &mut Tokens<'_>) -> Result<List<CVar>, Stop>
     ensures read { Took (locals tokens.old) result tokens.new }
     ensures spelled { IfOk result (λ x. YieldsLocals tokens.old x tokens.new) }
 {
     let mut locals = List::new(alloc);
     while is_type_next(tokens) {
-        let local = read_local(tokens)?;
+        let local = read_local(alloc, tokens)?;
         locals.push(local)?;
     }
     Ok(locals)
@@ -115,11 +115,11 @@ fn read_locals(alloc: Global, tokens: &mut Stack<Token>) -> Result<List<CVar>, C
 #[tactic(auto, unfolding(crate::specs::Productions::definition))]
 fn read_definition(
     alloc: Global,
-    tokens: &mut Stack<Token>,
+    tokens: &mut Tokens<'_>,
     result_type: CTy,
     name: Text,
     params: List<CVar>,
-) -> Result<CItem, CReadErr>
+) -> Result<CItem, Stop>
     ensures read { TookAs item_of (definition result_type name params tokens.old) result tokens.new }
     ensures spelled { IfOk result (λ i. YieldsDefinition result_type name params tokens.old i tokens.new) }
 {
@@ -138,10 +138,10 @@ fn read_definition(
 #[tactic(auto, unfolding(crate::specs::Productions::without_params))]
 fn read_without_params(
     alloc: Global,
-    tokens: &mut Stack<Token>,
+    tokens: &mut Tokens<'_>,
     result_type: CTy,
     name: Text,
-) -> Result<CItem, CReadErr>
+) -> Result<CItem, Stop>
     ensures read { TookAs item_of (without_params result_type name tokens.old) result tokens.new }
     ensures spelled { IfOk result (λ i. YieldsRest result_type name (Word (codes "void") ∷ Mark 41 ∷ tokens.old) i tokens.new) }
 {
@@ -155,11 +155,11 @@ fn read_without_params(
 #[tactic(auto, unfolding(crate::specs::Productions::with_types))]
 fn read_with_types(
     alloc: Global,
-    tokens: &mut Stack<Token>,
+    tokens: &mut Tokens<'_>,
     result_type: CTy,
     name: Text,
     first: CTy,
-) -> Result<CItem, CReadErr>
+) -> Result<CItem, Stop>
     ensures read { TookAs item_of (with_types result_type name first tokens.old) result tokens.new }
     ensures spelled { IfOk result (λ i. YieldsRest result_type name (Word (type_text first) ∷ tokens.old) i tokens.new) }
 {
@@ -171,15 +171,15 @@ fn read_with_types(
 #[tactic(auto, unfolding(crate::specs::Productions::with_names))]
 fn read_with_names(
     alloc: Global,
-    tokens: &mut Stack<Token>,
+    tokens: &mut Tokens<'_>,
     result_type: CTy,
     name: Text,
     first: CTy,
-) -> Result<CItem, CReadErr>
+) -> Result<CItem, Stop>
     ensures read { TookAs item_of (with_names result_type name first tokens.old) result tokens.new }
     ensures spelled { IfOk result (λ i. YieldsRest result_type name (Word (type_text first) ∷ tokens.old) i tokens.new) }
 {
-    let first_name = local_name(tokens)?;
+    let first_name = local_name(alloc, tokens)?;
     let params = read_params(
         alloc,
         tokens,
@@ -195,10 +195,10 @@ fn read_with_names(
 #[tactic(auto, unfolding(crate::specs::Productions::with_params))]
 fn read_with_params(
     alloc: Global,
-    tokens: &mut Stack<Token>,
+    tokens: &mut Tokens<'_>,
     result_type: CTy,
     name: Text,
-) -> Result<CItem, CReadErr>
+) -> Result<CItem, Stop>
     ensures read { TookAs item_of (with_params result_type name tokens.old) result tokens.new }
     ensures spelled { IfOk result (λ i. YieldsRest result_type name tokens.old i tokens.new) }
 {
@@ -212,10 +212,10 @@ fn read_with_params(
 #[tactic(auto, unfolding(crate::specs::Productions::item_rest))]
 fn read_item_rest(
     alloc: Global,
-    tokens: &mut Stack<Token>,
+    tokens: &mut Tokens<'_>,
     result_type: CTy,
     name: Text,
-) -> Result<CItem, CReadErr>
+) -> Result<CItem, Stop>
     ensures read { TookAs item_of (item_rest result_type name tokens.old) result tokens.new }
     ensures spelled { IfOk result (λ i. YieldsRest result_type name tokens.old i tokens.new) }
 {
@@ -227,19 +227,64 @@ fn read_item_rest(
     read_with_params(alloc, tokens, result_type, name)
 }
 
+#[tactic(auto, unfolding(crate::specs::Productions::external_rest))]
+fn read_external(alloc: Global, tokens: &mut Tokens<'_>) -> Result<CItem, Stop>
+    ensures read { TookAs item_of (external_rest tokens.old) result tokens.new }
+    ensures spelled { IfOk result (λ i. YieldsItem (Word (codes "extern") ∷ tokens.old) i tokens.new) }
+{
+    let ty = type_word(tokens)?;
+    let name = global_name(alloc, tokens)?;
+    skip(tokens, b';')?;
+    Ok(CItem::Extern(CVar { ty, name }))
+}
+
+#[tactic(auto, unfolding(crate::specs::Productions::item_named))]
+fn read_item_named(
+    alloc: Global,
+    tokens: &mut Tokens<'_>,
+    ty: CTy,
+    word: &[u8],
+) -> Result<CItem, Stop>
+    ensures read { TookAs item_of (item_named ty word.now tokens.old) result tokens.new }
+    ensures spelled { IfOk result (λ i. YieldsNamed ty word.now tokens.old i tokens.new) }
+{
+    if names_global(word) {
+        skip(tokens, b';')?;
+        let name = Text::from_bytes(alloc, word)?;
+        return Ok(CItem::Global(CVar { ty, name }));
+    }
+    if !names_function(word) {
+        return Err(Stop::Wrong);
+    }
+    skip(tokens, b'(')?;
+    let name = Text::from_bytes(alloc, word)?;
+    read_item_rest(alloc, tokens, ty, name)
+}
+
+#[tactic(auto, unfolding(crate::specs::Productions::typed_item))]
+fn read_typed_item(alloc: Global, tokens: &mut Tokens<'_>) -> Result<CItem, Stop>
+    ensures read { TookAs item_of (typed_item tokens.old) result tokens.new }
+    ensures spelled { IfOk result (λ x. YieldsItem tokens.old x tokens.new) }
+{
+    let ty = type_word(tokens)?;
+    let word = word(tokens)?;
+    read_item_named(alloc, tokens, ty, word)
+}
+
 #[tactic(auto, unfolding(crate::specs::Productions::item))]
-fn read_item(alloc: Global, tokens: &mut Stack<Token>) -> Result<CItem, CReadErr>
+fn read_item(alloc: Global, tokens: &mut Tokens<'_>) -> Result<CItem, Stop>
     ensures read { TookAs item_of (item tokens.old) result tokens.new }
     ensures spelled { IfOk result (λ x. YieldsItem tokens.old x tokens.new) }
 {
-    let result_type = type_word(tokens)?;
-    let name = function_name(tokens)?;
-    skip(tokens, b'(')?;
-    read_item_rest(alloc, tokens, result_type, name)
+    if is_extern_next(tokens) {
+        skip_text(tokens, b"extern")?;
+        return read_external(alloc, tokens);
+    }
+    read_typed_item(alloc, tokens)
 }
 
 /// All items.
-pub fn read_items(alloc: Global, tokens: &mut Stack<Token>) -> Result<List<CItem>, CReadErr>
+pub fn read_items(alloc: Global, tokens: &mut Tokens<'_>) -> Result<List<CItem>, Stop>
     ensures read { TookAs items_of (parsed tokens.old) result tokens.new }
     ensures spelled { IfOk result (λ x. YieldsItems tokens.old x []) }
 {

@@ -1,13 +1,14 @@
-// The tokens of a text.
-ghost use Rattle.std.specs.Prelude.{◌≡◌, ℕ, ◌+◌, ◌≤◌, ◌∷◌, length, take, IfOk, nat_eq};
+// What stands at the front of a text.
+ghost use Rattle.std.specs.Prelude.{◌≡◌, ℕ, ◌+◌, ◌≤◌, ◌<◌, ◌∷◌, length, take, IfOk, nat_eq};
 ghost use Rattle.std.specs.List.{prefix_len};
-ghost use Rattle.c_tree.specs.declared.tree.Token.TheVariants.{Word};
-ghost use Rattle.c_tree.specs.Lexical.{Lexed, is_space, is_word_byte, is_mark, is_octal, escape_at, octal_at, spelled_at, quoted_from, lexeme, signed_lexeme, string_lexeme};
-ghost use Rattle.c_read.specs.Scans.{octal_byte, spelled_of, quoted_of, lexeme_of, GivesTokens};
+ghost use Rattle.std.specs.Option.{IfSome};
+ghost use Rattle.c_tree.specs.Lexical.{Word, Bad, Lexed, comment_len, comment_lexeme, is_space, is_word_byte, is_mark, is_octal, escape_at, octal_at, spelled_at, quoted_from, lexeme, signed_lexeme, string_lexeme};
+ghost use Rattle.c_read.specs.Scans.{octal_byte, spelled_of, quoted_of, size_in, lexeme_of, lexeme_at, more_of};
+ghost use Rattle.c_read.specs.Tokens.{unquoted};
 
-use crate::read::CReadErr;
-use c_tree::{Token, is_plain, tells_alphanumeric};
-use scheme_data::{List, OutOfMemory, Stack, Text};
+use crate::token::{CToken, Part};
+use c_tree::{is_plain, tells_alphanumeric};
+use scheme_data::{OutOfMemory, Text};
 use std::alloc::Global;
 
 /// A byte of a string, with the number of the bytes that spell it, less the first.
@@ -26,10 +27,9 @@ pub struct Quote {
 
 /// What stands at a place, with the number of its bytes after the first.
 #[derive(Drop)]
-pub enum Scan {
-    Gap,
-    Wrong,
-    Lexed(Token, usize),
+pub enum Scan<'a> {
+    Gap(usize),
+    Lexed(CToken<'a>, usize),
 }
 
 fn tells_space(b: u8) -> bool
@@ -137,6 +137,38 @@ fn quoted(alloc: Global, rest: &[u8]) -> Result<Option<Quote>, OutOfMemory>
     Ok(None)
 }
 
+// How many bytes a string has behind its opening quote, the closing one included.
+fn quoted_len(rest: &[u8]) -> Option<usize>
+    ensures value { result ≡ size_in (quoted_from 0 rest.now) }
+    ensures within { IfSome result (λ n. n ≤ length rest.now) }
+{
+    let mut skip: usize = 0;
+    for i in 0..rest.len() {
+        if skip > 0 {
+            skip -= 1;
+        } else {
+            if rest[i] == b'"' {
+                return Some(i + 1);
+            }
+            let Some(coded) = string_byte_at(rest[i], &rest[i + 1..]) else {
+                return None;
+            };
+            skip = coded.more;
+        }
+    }
+    None
+}
+
+/// The bytes of a string, from the text behind its opening quote.
+pub fn unquote(alloc: Global, rest: &[u8]) -> Result<Text, OutOfMemory>
+    ensures { IfOk result (λ text. text ≡ unquoted rest.now) }
+{
+    match quoted(alloc, rest)? {
+        Some(Quote { bytes, .. }) => Ok(bytes),
+        None => Ok(Text::new(alloc)),
+    }
+}
+
 fn word_len(rest: &[u8]) -> usize
     ensures value { result ≡ prefix_len is_word_byte rest.now }
     ensures within { result ≤ length rest.now }
@@ -148,90 +180,104 @@ fn word_len(rest: &[u8]) -> usize
     n
 }
 
-fn joined(alloc: Global, first: u8, rest: &[u8]) -> Result<Text, OutOfMemory>
-    ensures { IfOk result (λ text. text ≡ first ∷ rest.now) }
+fn wrong<'a>() -> Scan<'a>
+    ensures { lexeme_of result ≡ Lexed Bad 0 }
 {
-    let mut text = Text::new(alloc);
-    text.push(first)?;
-    text.extend(rest)?;
-    Ok(text)
+    Scan::Lexed(CToken::new(Part::Bad), 0)
 }
 
-fn word_at(alloc: Global, first: u8, rest: &[u8], more: usize) -> Result<Scan, OutOfMemory>
-    requires { more ≤ length rest.now }
-    ensures { IfOk result (λ s. lexeme_of s ≡ Lexed (Word (first ∷ take more rest.now)) more) }
+// A word, and how many bytes it has after its first.
+fn word_at<'a>(text: &'a [u8], more: usize) -> Scan<'a>
+    requires { more < length text.now }
+    ensures lexeme { lexeme_of result ≡ Lexed (Word (take (1 + more) text.now)) more }
+    ensures within { more_of result < length text.now }
 {
-    let text = joined(alloc, first, &rest[..more])?;
-    Ok(Scan::Lexed(Token::Word(text), more))
+    Scan::Lexed(CToken::new(Part::Word(&text[..1 + more])), more)
 }
 
-fn signed_at(alloc: Global, rest: &[u8]) -> Result<Scan, OutOfMemory>
-    ensures { IfOk result (λ s. lexeme_of s ≡ signed_lexeme rest.now) }
+fn signed_at<'a>(text: &'a [u8], rest: &[u8]) -> Scan<'a>
+    requires { text.now ≡ 45 ∷ rest.now }
+    ensures lexeme { lexeme_of result ≡ signed_lexeme rest.now }
+    ensures within { more_of result < length text.now }
 {
     let more = word_len(rest);
     if more == 0 {
-        return Ok(Scan::Wrong);
+        return wrong();
     }
-    word_at(alloc, b'-', rest, more)
+    word_at(text, more)
 }
 
-fn string_at(alloc: Global, rest: &[u8]) -> Result<Scan, OutOfMemory>
-    ensures { IfOk result (λ s. lexeme_of s ≡ string_lexeme (quoted_from 0 rest.now)) }
+fn string_at<'a>(rest: &'a [u8]) -> Scan<'a>
+    ensures lexeme { lexeme_of result ≡ string_lexeme (quoted_from 0 rest.now) }
+    ensures within { more_of result ≤ length rest.now }
 {
-    match quoted(alloc, rest)? {
-        Some(Quote { bytes, size }) => Ok(Scan::Lexed(Token::Str(bytes), size)),
-        None => Ok(Scan::Wrong),
+    match quoted_len(rest) {
+        Some(size) => Scan::Lexed(CToken::new(Part::Str(rest)), size),
+        None => wrong(),
     }
 }
 
+// The bytes of a comment after its `/*`.
+fn comment_len(rest: &[u8]) -> Option<usize>
+    ensures value { result ≡ comment_len rest.now }
+    ensures within { IfSome result (λ n. n ≤ length rest.now) }
+{
+    let mut last = 0;
+    for i in 0..rest.len() {
+        if last == b'*' && rest[i] == b'/' {
+            return Some(i + 1);
+        }
+        last = rest[i];
+    }
+    None
+}
+
+fn comment_at<'a>(rest: &[u8]) -> Scan<'a>
+    ensures lexeme { lexeme_of result ≡ comment_lexeme rest.now }
+    ensures within { more_of result ≤ length rest.now }
+{
+    if rest.is_empty() || rest[0] != b'*' {
+        return wrong();
+    }
+    match comment_len(&rest[1..]) {
+        Some(n) => Scan::Gap(n + 1),
+        None => wrong(),
+    }
+}
+
+// What stands at the front of a text that begins so.
 #[tactic(auto, unfolding(c_tree::specs::Lexical::lexeme))]
-fn scan_at(alloc: Global, first: u8, rest: &[u8]) -> Result<Scan, OutOfMemory>
-    ensures { IfOk result (λ s. lexeme_of s ≡ lexeme first rest.now) }
+fn scan_first<'a>(text: &'a [u8], first: u8, rest: &'a [u8]) -> Scan<'a>
+    requires { text.now ≡ first ∷ rest.now }
+    ensures lexeme { lexeme_of result ≡ lexeme first rest.now }
+    ensures within { more_of result < length text.now }
 {
     if tells_space(first) {
-        return Ok(Scan::Gap);
+        return Scan::Gap(0);
     }
     if tells_word(first) {
-        return word_at(alloc, first, rest, word_len(rest));
+        return word_at(text, word_len(rest));
     }
     if first == b'-' {
-        return signed_at(alloc, rest);
+        return signed_at(text, rest);
     }
     if tells_mark(first) {
-        return Ok(Scan::Lexed(Token::Mark(first), 0));
+        return Scan::Lexed(CToken::new(Part::Mark(first)), 0);
     }
     if first == b'"' {
-        return string_at(alloc, rest);
+        return string_at(rest);
     }
-    Ok(Scan::Wrong)
+    if first == b'/' {
+        return comment_at(rest);
+    }
+    wrong()
 }
 
-// The reader takes tokens off at the front.
-fn first_on_top(tokens: List<Token>) -> Stack<Token>
-    ensures { result ≡ tokens }
+/// What stands at the front of a text that isn't empty.
+pub fn scan_at<'a>(text: &'a [u8]) -> Scan<'a>
+    requires { 0 < length text.now }
+    ensures lexeme { lexeme_of result ≡ lexeme_at text.now }
+    ensures within { more_of result < length text.now }
 {
-    tokens.into_stack().into_list().into_stack()
-}
-
-/// The tokens of a text. A text with a byte that begins no token is refused at once: from an open quote it could be scanned again and again.
-pub fn tokens(alloc: Global, bytes: &[u8]) -> Result<Stack<Token>, CReadErr>
-    ensures { GivesTokens bytes.now result }
-{
-    let mut found = List::new(alloc);
-    let mut skip: usize = 0;
-    for i in 0..bytes.len() {
-        if skip > 0 {
-            skip -= 1;
-        } else {
-            match scan_at(alloc, bytes[i], &bytes[i + 1..])? {
-                Scan::Gap => {}
-                Scan::Wrong => return Err(CReadErr::NotC),
-                Scan::Lexed(token, more) => {
-                    found.push(token)?;
-                    skip = more;
-                }
-            }
-        }
-    }
-    Ok(first_on_top(found))
+    scan_first(text, text[0], &text[1..])
 }

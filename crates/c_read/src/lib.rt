@@ -3,10 +3,16 @@
 
 mod bodies;
 mod calls;
+mod dues;
+mod fault;
 mod items;
+mod kinds;
 mod lex;
 mod read;
 mod skips;
+mod stop;
+mod token;
+mod tokens;
 mod words;
 
 pub use read::{CReadErr, read_c, read_unit};

@@ -1,26 +1,22 @@
 // Single tokens.
-ghost use Rattle.std.specs.Prelude.{◌≡◌, ◌∷◌, MatchBool, OnOk, IfOk, IsTrue, codes};
+ghost use Rattle.std.specs.Prelude.{◌≡◌, ◌∷◌, MatchBool, OnOk, IfOk, IsTrue};
 ghost use Rattle.std.specs.Option.{option_copied, is_some};
-ghost use Rattle.c_tree.specs.declared.tree.Token.TheVariants.{Word, Mark};
+ghost use Rattle.c_tree.specs.Lexical.{Word, Mark};
 ghost use Rattle.c_tree.specs.Spelling.{type_text};
-ghost use Rattle.c_tree.specs.Names.{is_function_name, is_local_name};
-ghost use Rattle.c_read.specs.Sequences.{front, Took, Skipped, after_mark, word_first, named, first_word, is_first};
-ghost use Rattle.c_read.specs.Words.{is_else};
-ghost use Rattle.c_read.specs.Productions.{after_for, is_type, any_word, is_void, type_first};
+ghost use Rattle.c_tree.specs.Names.{is_entry_name, is_global_name, is_local_name, is_end_label_name, is_target_name};
+ghost use Rattle.c_read.specs.Sequences.{Took, TookAs, lent, Skipped, after_mark, after_text, word_first, named, first_word, is_first};
+ghost use Rattle.c_read.specs.Words.{is_extern};
+ghost use Rattle.c_read.specs.Productions.{is_type, any_word, is_void, type_first};
 
-use crate::read::CReadErr;
+use crate::stop::Stop;
+use crate::tokens::Tokens;
 use crate::words::{has_text, type_by_name};
-use c_tree::{CTy, Token, names_function, names_local};
-use scheme_data::{Stack, Text};
-
-fn next(tokens: &Stack<Token>) -> Option<&Token>
-    ensures { option_copied result ≡ front tokens.now }
-{
-    tokens.top()
-}
+use c_tree::{CTy, names_end_label, names_entry, names_global, names_local, names_target};
+use scheme_data::Text;
+use std::alloc::Global;
 
 /// Takes this mark, if it is next.
-pub fn took(tokens: &mut Stack<Token>, mark: u8) -> bool
+pub fn took(tokens: &mut Tokens<'_>, mark: u8) -> bool
     ensures { MatchBool result ((after_mark mark tokens.old ≡ Some tokens.new) × (tokens.old ≡ Mark mark ∷ tokens.new)) ((after_mark mark tokens.old ≡ None) × (tokens.new ≡ tokens.old)) }
 {
     if !is_next(tokens, mark) {
@@ -30,120 +26,165 @@ pub fn took(tokens: &mut Stack<Token>, mark: u8) -> bool
     true
 }
 
-fn is_next(tokens: &Stack<Token>, mark: u8) -> bool
+fn is_next(tokens: &Tokens<'_>, mark: u8) -> bool
     ensures { result ≡ is_some (after_mark mark tokens.now) }
 {
-    match next(tokens) {
-        Some(Token::Mark(m)) => *m == mark,
-        _ => false,
+    match tokens.top() {
+        Some(token) => token.is_mark(mark),
+        None => false,
     }
 }
 
 /// Takes this mark.
-pub fn skip(tokens: &mut Stack<Token>, mark: u8) -> Result<(), CReadErr>
+pub fn skip(tokens: &mut Tokens<'_>, mark: u8) -> Result<(), Stop>
     ensures read { Skipped (after_mark mark tokens.old) result tokens.new }
     ensures spelled { OnOk result (tokens.old ≡ Mark mark ∷ tokens.new) }
 {
-    match tokens.pop() {
-        Some(Token::Mark(m)) if m == mark => Ok(()),
-        _ => Err(CReadErr::NotC),
+    let Some(token) = tokens.pop() else {
+        return Err(Stop::Wrong);
+    };
+    if token.is_mark(mark) {
+        return Ok(());
     }
+    Err(Stop::Wrong)
 }
 
 /// Takes a word.
-pub fn word(tokens: &mut Stack<Token>) -> Result<Text, CReadErr>
-    ensures read { Took (word_first tokens.old) result tokens.new }
-    ensures spelled { IfOk result (λ w. tokens.old ≡ Word w ∷ tokens.new) }
+pub fn word<'a>(tokens: &mut Tokens<'a>) -> Result<&'a [u8], Stop>
+    ensures read { TookAs lent (word_first tokens.old) result tokens.new }
+    ensures spelled { IfOk result (λ w. tokens.old ≡ Word w.now ∷ tokens.new) }
 {
-    match tokens.pop() {
-        Some(Token::Word(word)) => Ok(word),
-        _ => Err(CReadErr::NotC),
+    let Some(token) = tokens.pop() else {
+        return Err(Stop::Wrong);
+    };
+    match token.into_word() {
+        Some(word) => Ok(word),
+        None => Err(Stop::Wrong),
     }
 }
 
-pub fn skip_for(tokens: &mut Stack<Token>) -> Result<(), CReadErr>
-    ensures read { Skipped (after_for tokens.old) result tokens.new }
-    ensures spelled { OnOk result (tokens.old ≡ Word (codes "for") ∷ tokens.new) }
+/// Takes a word with this text.
+pub fn skip_text(tokens: &mut Tokens<'_>, text: &[u8]) -> Result<(), Stop>
+    ensures read { Skipped (after_text text.now tokens.old) result tokens.new }
+    ensures spelled { OnOk result (tokens.old ≡ Word text.now ∷ tokens.new) }
 {
     let word = word(tokens)?;
-    if has_text(word.as_bytes(), b"for") {
+    if has_text(word, text) {
         return Ok(());
     }
-    Err(CReadErr::NotC)
+    Err(Stop::Wrong)
 }
 
-pub fn function_name(tokens: &mut Stack<Token>) -> Result<Text, CReadErr>
-    ensures read { Took (named is_function_name tokens.old) result tokens.new }
-    ensures spelled { IfOk result (λ w. (tokens.old ≡ Word w ∷ tokens.new) × IsTrue (is_function_name w)) }
-{
-    let word = word(tokens)?;
-    if names_function(word.as_bytes()) {
-        return Ok(word);
-    }
-    Err(CReadErr::NotC)
-}
-
-pub fn local_name(tokens: &mut Stack<Token>) -> Result<Text, CReadErr>
+pub fn local_name(alloc: Global, tokens: &mut Tokens<'_>) -> Result<Text, Stop>
     ensures read { Took (named is_local_name tokens.old) result tokens.new }
     ensures spelled { IfOk result (λ w. (tokens.old ≡ Word w ∷ tokens.new) × IsTrue (is_local_name w)) }
 {
     let word = word(tokens)?;
-    if names_local(word.as_bytes()) {
-        return Ok(word);
+    if names_local(word) {
+        let name = Text::from_bytes(alloc, word)?;
+        return Ok(name);
     }
-    Err(CReadErr::NotC)
+    Err(Stop::Wrong)
+}
+
+pub fn global_name(alloc: Global, tokens: &mut Tokens<'_>) -> Result<Text, Stop>
+    ensures read { Took (named is_global_name tokens.old) result tokens.new }
+    ensures spelled { IfOk result (λ w. (tokens.old ≡ Word w ∷ tokens.new) × IsTrue (is_global_name w)) }
+{
+    let word = word(tokens)?;
+    if names_global(word) {
+        let name = Text::from_bytes(alloc, word)?;
+        return Ok(name);
+    }
+    Err(Stop::Wrong)
+}
+
+pub fn entry_name(alloc: Global, tokens: &mut Tokens<'_>) -> Result<Text, Stop>
+    ensures read { Took (named is_entry_name tokens.old) result tokens.new }
+    ensures spelled { IfOk result (λ w. (tokens.old ≡ Word w ∷ tokens.new) × IsTrue (is_entry_name w)) }
+{
+    let word = word(tokens)?;
+    if names_entry(word) {
+        let name = Text::from_bytes(alloc, word)?;
+        return Ok(name);
+    }
+    Err(Stop::Wrong)
+}
+
+pub fn end_label_name(alloc: Global, tokens: &mut Tokens<'_>) -> Result<Text, Stop>
+    ensures read { Took (named is_end_label_name tokens.old) result tokens.new }
+    ensures spelled { IfOk result (λ w. (tokens.old ≡ Word w ∷ tokens.new) × IsTrue (is_end_label_name w)) }
+{
+    let word = word(tokens)?;
+    if names_end_label(word) {
+        let name = Text::from_bytes(alloc, word)?;
+        return Ok(name);
+    }
+    Err(Stop::Wrong)
+}
+
+pub fn target_name(alloc: Global, tokens: &mut Tokens<'_>) -> Result<Text, Stop>
+    ensures read { Took (named is_target_name tokens.old) result tokens.new }
+    ensures spelled { IfOk result (λ w. (tokens.old ≡ Word w ∷ tokens.new) × IsTrue (is_target_name w)) }
+{
+    let word = word(tokens)?;
+    if names_target(word) {
+        let name = Text::from_bytes(alloc, word)?;
+        return Ok(name);
+    }
+    Err(Stop::Wrong)
 }
 
 #[tactic(auto, unfolding(crate::specs::Productions::type_first))]
-pub fn type_word(tokens: &mut Stack<Token>) -> Result<CTy, CReadErr>
+pub fn type_word(tokens: &mut Tokens<'_>) -> Result<CTy, Stop>
     ensures read { Took (type_first tokens.old) result tokens.new }
     ensures spelled { IfOk result (λ t. tokens.old ≡ Word (type_text t) ∷ tokens.new) }
 {
     let word = word(tokens)?;
-    match type_by_name(word.as_bytes()) {
+    match type_by_name(word) {
         Some(ty) => Ok(ty),
-        None => Err(CReadErr::NotC),
+        None => Err(Stop::Wrong),
     }
 }
 
-fn next_word(tokens: &Stack<Token>) -> Option<&Text>
+fn next_word<'a>(tokens: &Tokens<'a>) -> Option<&'a [u8]>
     ensures { option_copied result ≡ first_word tokens.now }
 {
-    match next(tokens) {
-        Some(Token::Word(word)) => Some(word),
-        _ => None,
+    match tokens.top() {
+        Some(token) => token.as_word(),
+        None => None,
     }
 }
 
-pub fn is_word_next(tokens: &Stack<Token>) -> bool
+pub fn is_word_next(tokens: &Tokens<'_>) -> bool
     ensures { result ≡ is_first any_word tokens.now }
 {
     next_word(tokens).is_some()
 }
 
-pub fn is_type_next(tokens: &Stack<Token>) -> bool
+pub fn is_type_next(tokens: &Tokens<'_>) -> bool
     ensures { result ≡ is_first is_type tokens.now }
 {
     match next_word(tokens) {
-        Some(word) => type_by_name(word.as_bytes()).is_some(),
+        Some(word) => type_by_name(word).is_some(),
         None => false,
     }
 }
 
-pub fn is_else_next(tokens: &Stack<Token>) -> bool
-    ensures { result ≡ is_first is_else tokens.now }
+pub fn is_extern_next(tokens: &Tokens<'_>) -> bool
+    ensures { result ≡ is_first is_extern tokens.now }
 {
     match next_word(tokens) {
-        Some(word) => has_text(word.as_bytes(), b"else"),
+        Some(word) => has_text(word, b"extern"),
         None => false,
     }
 }
 
-pub fn is_void_next(tokens: &Stack<Token>) -> bool
+pub fn is_void_next(tokens: &Tokens<'_>) -> bool
     ensures { result ≡ is_first is_void tokens.now }
 {
     match next_word(tokens) {
-        Some(word) => has_text(word.as_bytes(), b"void"),
+        Some(word) => has_text(word, b"void"),
         None => false,
     }
 }

@@ -1,14 +1,17 @@
-ghost use Rattle.std.specs.Prelude.{◌≡◌, IsTrue};
+ghost use Rattle.std.specs.Prelude.{◌≡◌, IsTrue, IfOk};
 ghost use Rattle.std.specs.Option.{IfSome};
 ghost use Rattle.scheme_data.specs.Decimal.{number_text};
 ghost use Rattle.scheme_data.specs.Fixnum.{IsFixnum};
 ghost use Rattle.c_tree.specs.Operations.{op_text, op_named};
 ghost use Rattle.c_tree.specs.Spelling.{type_text, atom_text, callee_text, NamedAtom, NamedCallee};
-ghost use Rattle.c_read.specs.Words.{type_of, number_of, constant_of, atom_of, callee_of};
+ghost use Rattle.c_read.specs.Words.{type_of, number_of, constant_of, value_of, atom_of, callee_of};
+ghost use Rattle.c_read.specs.Sequences.{Finds};
 ghost use Rattle.scheme_data.specs.Names.{is_same};
 
-use c_tree::{CAtom, CTy, Callee, Op, names_function, names_local, op_by_name};
+use crate::stop::Stop;
+use c_tree::{CAtom, CTy, Callee, Op, names_function, names_symbol, names_variable, op_by_name};
 use scheme_data::{Text, number_of_text};
+use std::alloc::Global;
 
 pub fn has_text(word: &[u8], text: &[u8]) -> bool
     ensures value { result ≡ is_same word.now text.now }
@@ -37,15 +40,17 @@ pub fn type_by_name(word: &[u8]) -> Option<CTy>
     None
 }
 
-fn number(word: &[u8]) -> Option<i64>
+/// The number of a word.
+pub fn number(word: &[u8]) -> Option<i64>
     ensures value { result ≡ number_of word.now }
     ensures spelled { IfSome result (λ n. (word.now ≡ number_text n) × IsFixnum n) }
 {
     number_of_text(word)
 }
 
+/// The constant of a word.
 #[tactic(auto, unfolding(crate::specs::Words::constant_of))]
-fn constant(word: &[u8]) -> Option<CAtom>
+pub fn constant(word: &[u8]) -> Option<CAtom>
     ensures value { result ≡ constant_of word.now }
     ensures spelled { IfSome result (λ a. (word.now ≡ atom_text a) × NamedAtom a) }
 {
@@ -67,23 +72,39 @@ fn constant(word: &[u8]) -> Option<CAtom>
     None
 }
 
-/// The atom of a word.
-#[tactic(auto, unfolding(crate::specs::Words::atom_of))]
-pub fn atom(word: Text) -> Option<CAtom>
-    ensures value { result ≡ atom_of word }
-    ensures spelled { IfSome result (λ a. (word ≡ atom_text a) × NamedAtom a) }
+#[tactic(auto, unfolding(crate::specs::Words::value_of))]
+fn value(alloc: Global, word: &[u8]) -> Result<CAtom, Stop>
+    ensures value { Finds (value_of word.now) result }
+    ensures spelled { IfOk result (λ a. (word.now ≡ atom_text a) × NamedAtom a) }
 {
-    if names_local(word.as_bytes()) {
-        return Some(CAtom::Name(word));
+    if names_symbol(word) {
+        let name = Text::from_bytes(alloc, word)?;
+        return Ok(CAtom::Sym(name));
     }
-    if let Some(constant) = constant(word.as_bytes()) {
-        return Some(constant);
+    if let Some(constant) = constant(word) {
+        return Ok(constant);
     }
-    let n = number(word.as_bytes())?;
-    Some(CAtom::Int(n))
+    match number(word) {
+        Some(n) => Ok(CAtom::Int(n)),
+        None => Err(Stop::Wrong),
+    }
 }
 
-fn operation(word: &[u8]) -> Option<Op>
+/// The atom of a word.
+#[tactic(auto, unfolding(crate::specs::Words::atom_of))]
+pub fn atom(alloc: Global, word: &[u8]) -> Result<CAtom, Stop>
+    ensures value { Finds (atom_of word.now) result }
+    ensures spelled { IfOk result (λ a. (word.now ≡ atom_text a) × NamedAtom a) }
+{
+    if names_variable(word) {
+        let name = Text::from_bytes(alloc, word)?;
+        return Ok(CAtom::Name(name));
+    }
+    value(alloc, word)
+}
+
+/// The operation of a word.
+pub fn operation(word: &[u8]) -> Option<Op>
     ensures value { result ≡ op_named word.now }
     ensures spelled { IfSome result (λ op. word.now ≡ op_text op) }
 {
@@ -92,13 +113,16 @@ fn operation(word: &[u8]) -> Option<Op>
 
 /// What a word calls.
 #[tactic(auto, unfolding(crate::specs::Words::callee_of))]
-pub fn callee(word: Text) -> Option<Callee>
-    ensures value { result ≡ callee_of word }
-    ensures spelled { IfSome result (λ c. (word ≡ callee_text c) × NamedCallee c) }
+pub fn callee(alloc: Global, word: &[u8]) -> Result<Callee, Stop>
+    ensures value { Finds (callee_of word.now) result }
+    ensures spelled { IfOk result (λ c. (word.now ≡ callee_text c) × NamedCallee c) }
 {
-    if names_function(word.as_bytes()) {
-        return Some(Callee::Fun(word));
+    if names_function(word) {
+        let name = Text::from_bytes(alloc, word)?;
+        return Ok(Callee::Fun(name));
     }
-    let op = operation(word.as_bytes())?;
-    Some(Callee::Op(op))
+    match operation(word) {
+        Some(op) => Ok(Callee::Op(op)),
+        None => Err(Stop::Wrong),
+    }
 }

@@ -6,7 +6,7 @@ use Rattle.c_read.proofs.bodies.read_pieces.Given as goal
 
 abbrev pub invariant-loop-alloc : goal.invariant-loop-alloc
 invariant-loop-alloc l = record {
-  within : Within (all_pieces l.fn.tokens) l.pieces l.depth l.tokens;
+  within : Within (all_pieces l.fn.tokens) l.pieces l.opens l.tokens;
   spelled : l.fn.tokens ≡ pieces_tokens l.pieces l.tokens;
   named : NamedPieces l.pieces;
 }

@@ -5,12 +5,12 @@ use Rattle.c_read.specs.Productions.{local, no_type}
 use Rattle.c_read.proofs.Many.{Going}
 use Rattle.c_read.proofs.items.read_locals.Given as goal
 
-abbrev pub invariant-loop-tokens : goal.invariant-loop-tokens
-invariant-loop-tokens l = record {
+abbrev pub invariant-loop-alloc : goal.invariant-loop-alloc
+invariant-loop-alloc l = record {
   going : Going local no_type (all local no_type l.fn.tokens) l.locals l.tokens;
   spelled : l.fn.tokens ≡ local_tokens l.locals l.tokens;
   named : NamedVars l.locals;
 }
 
-abbrev pub decreases-loop-tokens : goal.decreases-loop-tokens
-decreases-loop-tokens l = length l.tokens
+abbrev pub decreases-loop-alloc : goal.decreases-loop-alloc
+decreases-loop-alloc l = length l.tokens

@@ -5,7 +5,7 @@ use Rattle.c_read.specs.Sequences.{after_mark}
 use Rattle.c_read.specs.Productions.{next_type}
 use Rattle.c_read.proofs.Many.{starts_from, goes_on, stops, going_ended, spelled_on}
 use Rattle.c_tree.specs.declared.tree.CTy.{CTy}
-use Rattle.c_tree.specs.declared.tree.Token.TheVariants.{Word, Mark}
+use Rattle.c_tree.specs.Lexical.{Word, Mark}
 use Rattle.c_tree.specs.Spelling.{type_text, type_tokens}
 use Rattle.c_read.proofs.Loops.{types_more, fewer_by_two}
 use Rattle.c_read.proofs.items.read_types.Goals as goal

@@ -1,5 +1,5 @@
 use Rattle.std.proofs.Common.{◌≡◌, ◌<◌, [], ◌∷◌, length}
-use Rattle.c_tree.specs.declared.tree.Token.TheVariants.{Word}
+use Rattle.c_tree.specs.Lexical.{Word}
 use Rattle.c_tree.specs.Spelling.{type_text, type_tokens}
 use Rattle.c_read.specs.Sequences.{onto, all, after_mark}
 use Rattle.c_read.specs.Productions.{next_type}
