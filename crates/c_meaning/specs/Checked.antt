@@ -1,262 +1,204 @@
--- Checked programs: names are declared, distinct and agree, C types agree, and functions have their shapes.
-use Rattle.std.specs.Prelude.{ℕ, List, [], ◌∷◌, ◌++◌, map, find, filter, nat_le, nat_lt, ℤ, pos, negsuc, Bool, true, false, not, ◌&&◌, ◌||◌, if◌then◌else◌, IsTrue, Option, Some, None}
-use Rattle.std.specs.List.{list_all, list_any}
-use Rattle.scheme_data.specs.Names.{is_same, are_distinct}
-use Rattle.scheme_data.specs.Fixnum.{is_fixnum}
-use Rattle.prim_table.specs.Errors.{number_of}
-use Rattle.prim_table.specs.declared.errors.ErrCode.TheVariants.{WrongType, ZeroDivisor}
-use Rattle.c_tree.specs.declared.op.Wants.{Wants}
-use Rattle.c_tree.specs.declared.op.Wants.TheVariants.{AType, AnError, AText}
-use Rattle.c_tree.specs.Operations.{wants_of, gives_of}
+-- Checked programs: those that break no rule. The first breach of another is the first in text order.
+use Rattle.std.specs.Prelude.{◌≡◌, ℕ, List, [], ◌∷◌, ◌++◌, codes, map, Bool, true, false, not, ◌||◌, Option, Some, None, slice_get}
+use Rattle.std.specs.List.{list_any, flat_map}
 use Rattle.c_tree.specs.declared.tree.CTy.{CTy}
-use Rattle.c_tree.specs.declared.tree.CTy.TheVariants.{Obj, Long, Char, Int}
+use Rattle.c_tree.specs.declared.tree.CTy.TheVariants.{Obj, Int}
 use Rattle.c_tree.specs.declared.tree.CAtom.{CAtom}
 use Rattle.c_tree.specs.declared.tree.CAtom.TheVariants as atom
 use Rattle.c_tree.specs.declared.tree.CArg.{CArg}
 use Rattle.c_tree.specs.declared.tree.CArg.TheVariants as arg
-use Rattle.c_tree.specs.declared.tree.Callee.{Callee}
-use Rattle.c_tree.specs.declared.tree.Callee.TheVariants as callee
+use Rattle.c_tree.specs.declared.tree.CCall.{CCall}
 use Rattle.c_tree.specs.declared.tree.CExpr.{CExpr}
 use Rattle.c_tree.specs.declared.tree.CExpr.TheVariants as expr
 use Rattle.c_tree.specs.declared.tree.CVar.{CVar}
-use Rattle.c_tree.specs.Code.{Code, done, assign, call, return, test, loop, Fun, Item, declared, defined}
-use Rattle.c_tree.specs.Names.{is_main, is_maker, is_initializer}
+use Rattle.c_tree.specs.Names.{is_main}
+use Rattle.c_tree.specs.Code.{Code, done, assign, call, return, test, loop, ended, goto, catch, protect, Fun, Item, external, global, declared, defined}
+use Rattle.c_meaning.specs.declared.breach.BadCause.{BadCause}
+use Rattle.c_meaning.specs.declared.breach.BadCause.TheVariants.{Undeclared, Clash, Twice, Shape}
+use Rattle.c_meaning.specs.declared.breach.Breach.{Breach}
+use Rattle.c_meaning.specs.Plain.{same_type, variable_named, Signature, signature_of, signature_named, Role, Main, Entry, Function, role_of, variables_of, is_called_once, defined_names}
+use Rattle.c_meaning.specs.Breaches.{unless, has, Scope, called_in, code_breaches, is_complete, room_of, type_of}
 
-abbrev pub same_type : CTy → CTy → Bool
-same_type Obj Obj = true
-same_type Long Long = true
-same_type Char Char = true
-same_type Int Int = true
-same_type _ _ = false
+-- Heads -------------------------------------------------------------------------------------
 
-abbrev pub same_types : List CTy → List CTy → Bool
-same_types [] [] = true
-same_types (t ∷ ts) (u ∷ us) = same_type t u && same_types ts us
-same_types _ _ = false
+abbrev pub result_fits : Role → CTy → Bool
+result_fits Main t = same_type Int t
+result_fits Function t = true
+result_fits role t = same_type Obj t
 
--- Signatures --------------------------------------------------------------------------------
+abbrev pub param_fits : Role → CTy → Bool
+param_fits Function t = true
+param_fits Entry t = same_type Obj t
+param_fits role t = false
 
-pub record Signature : Type 0 where
-  pub name : List ℕ
-  pub result : CTy
-  pub params : List CTy
+abbrev pub result_agrees : Option Signature → CTy → Bool
+result_agrees None t = true
+result_agrees (Some f) t = same_type f.result t
 
-abbrev pub signature_of : Item → Signature
-signature_of (declared t name params) = record { name = name; result = t; params = params }
-signature_of (defined f) = record { name = f.name; result = f.result; params = map (λ v. v.ty) f.params }
+-- the parameters of an earlier declaration, of which the first were met
+abbrev pub params_before : Option Signature → Option (List CTy)
+params_before None = None
+params_before (Some f) = Some f.params
 
-abbrev pub same_signature : Signature → Signature → Bool
-same_signature a b = same_type a.result b.result && same_types a.params b.params
+abbrev pub param_agrees : Option (List CTy) → CTy → Bool
+param_agrees None t = true
+param_agrees (Some []) t = false
+param_agrees (Some (u ∷ us)) t = same_type u t
 
--- the signature of a name among those declared so far
-abbrev pub signature_named : List Signature → List ℕ → Option Signature
-signature_named sigs name = find (λ s. is_same s.name name) sigs
+abbrev pub params_behind : Option (List CTy) → Option (List CTy)
+params_behind None = None
+params_behind (Some []) = Some []
+params_behind (Some (u ∷ us)) = Some us
 
--- Types of expressions ----------------------------------------------------------------------
+-- at the closing parenthesis none is missing
+abbrev pub are_all : Option (List CTy) → Bool
+are_all None = true
+are_all (Some []) = true
+are_all (Some (u ∷ us)) = false
 
--- a number fits `long`, and from 0 to 255 `char` and `int`
-abbrev pub is_byte : ℤ → Bool
-is_byte (pos n) = nat_lt n 256
-is_byte (negsuc n) = false
+abbrev pub param_breaches : Role → Option (List CTy) → CTy → List BadCause
+param_breaches role before t = unless Clash (param_agrees before t) ++ unless Shape (param_fits role t)
 
-abbrev pub number_fits : ℤ → CTy → Bool
-number_fits n Obj = false
-number_fits n Long = is_fixnum n
-number_fits n Char = is_byte n
-number_fits n Int = is_byte n
+-- the types of a declaration
+abbrev pub types_breaches : Role → Option (List CTy) → List CTy → List BadCause
+types_breaches role before [] = unless Clash (are_all before)
+types_breaches role before (t ∷ ts) = param_breaches role before t ++ types_breaches role (params_behind before) ts
 
-abbrev pub is_typed : CTy → Option CVar → Bool
-is_typed t None = false
-is_typed t (Some v) = same_type t v.ty
+-- the parameters of a definition, behind variables of these names
+abbrev pub params_breaches : Role → Option (List CTy) → List (List ℕ) → List CVar → List BadCause
+params_breaches role before names [] = unless Clash (are_all before)
+params_breaches role before names (v ∷ vs) =
+    param_breaches role before v.ty ++ (unless Twice (not (has names v.name)) ++ params_breaches role (params_behind before) (names ++ v.name ∷ []) vs)
 
--- the variable of a name
-abbrev pub variable_named : List CVar → List ℕ → Option CVar
-variable_named vars x = find (λ v. is_same v.name x) vars
+-- the locals, behind variables of these names
+abbrev pub locals_breaches : List (List ℕ) → List CVar → List BadCause
+locals_breaches names [] = []
+locals_breaches names (v ∷ vs) = unless Twice (not (has names v.name)) ++ locals_breaches (names ++ v.name ∷ []) vs
 
-abbrev pub atom_fits : List CVar → CAtom → CTy → Bool
-atom_fits vars (atom.Int n) t = number_fits n t
-atom_fits vars (atom.Name x) t = is_typed t (variable_named vars x)
-atom_fits vars atom.False t = same_type t Obj
-atom_fits vars atom.True t = same_type t Obj
-atom_fits vars atom.Nil t = same_type t Obj
-atom_fits vars atom.Unspec t = same_type t Obj
-atom_fits vars atom.Eof t = same_type t Obj
+abbrev pub result_breaches : Role → Option Signature → CTy → List BadCause
+result_breaches role before t = unless Clash (result_agrees before t) ++ unless Shape (result_fits role t)
 
--- the numbers of errors are those from the first to the last
-abbrev pub is_error : ℤ → Bool
-is_error (pos n) = nat_le (number_of WrongType) n && nat_le n (number_of ZeroDivisor)
-is_error (negsuc n) = false
+-- Items -------------------------------------------------------------------------------------
 
-abbrev pub argument_fits : List CVar → Wants → CArg → Bool
-argument_fits vars (AType t) (arg.Atom a) = atom_fits vars a t
-argument_fits vars AnError (arg.Atom (atom.Int n)) = is_error n
-argument_fits vars AText (arg.Str text) = true
-argument_fits vars _ _ = false
+-- the functions and globals that are declared in front of an item, and the names that are defined there
+pub record Known : Type 0 where
+  pub functions : List Signature
+  pub globals : List CVar
+  pub names : List (List ℕ)
 
-abbrev pub arguments_fit : List CVar → List Wants → List CArg → Bool
-arguments_fit vars [] [] = true
-arguments_fit vars (w ∷ ws) (a ∷ others) = argument_fits vars w a && arguments_fit vars ws others
-arguments_fit vars _ _ = false
+abbrev pub names_of_vars : List CVar → List (List ℕ)
+names_of_vars vars = map (λ v. v.name) vars
 
-abbrev pub call_fits_signature : List CVar → Option Signature → List CArg → Option CTy
-call_fits_signature vars None args = None
-call_fits_signature vars (Some s) args = if arguments_fit vars (map AType s.params) args then Some s.result else None
+abbrev pub body_scope : Known → Fun → Scope
+body_scope k f = record {
+  role = role_of f.name;
+  result = f.result;
+  functions = k.functions ++ signature_of (defined f) ∷ [];
+  globals = k.globals;
+  variables = variables_of f;
+  labels = [];
+  called = [];
+  blocks = [];
+  room = room_of (role_of f.name);
+}
 
--- the type of a call, where its callee is declared and its arguments fit
-abbrev pub call_type : List Signature → List CVar → Callee → List CArg → Option CTy
-call_type sigs vars (callee.Fun name) args = call_fits_signature vars (signature_named sigs name) args
-call_type sigs vars (callee.Op op) args = if arguments_fit vars (wants_of op) args then Some (gives_of op) else None
+abbrev pub global_agrees : Option CTy → CTy → Bool
+global_agrees None t = true
+global_agrees (Some u) t = same_type u t
 
-abbrev pub is_the_type : CTy → Option CTy → Bool
-is_the_type t None = false
-is_the_type t (Some u) = same_type t u
+abbrev pub global_breaches : Known → CVar → List BadCause
+global_breaches k v = unless Clash (global_agrees (type_of (variable_named k.globals v.name)) v.ty)
 
-abbrev pub has_type : Option CTy → Bool
-has_type None = false
-has_type (Some t) = true
+abbrev pub item_breaches : Known → Item → List BadCause
+item_breaches k (external v) = global_breaches k v
+item_breaches k (global v) = global_breaches k v ++ unless Twice (not (has k.names v.name))
+item_breaches k (declared t name params) =
+    result_breaches (role_of name) (signature_named k.functions name) t
+    ++ types_breaches (role_of name) (params_before (signature_named k.functions name)) params
+item_breaches k (defined f) =
+    result_breaches (role_of f.name) (signature_named k.functions f.name) f.result
+    ++ (unless Twice (not (has k.names f.name))
+    ++ (params_breaches (role_of f.name) (params_before (signature_named k.functions f.name)) [] f.params
+    ++ (locals_breaches (names_of_vars f.params) f.locals
+    ++ (code_breaches (body_scope k f) f.code
+    ++ unless Shape (is_complete (role_of f.name) f.code)))))
 
-abbrev pub expr_fits : List Signature → List CVar → CExpr → CTy → Bool
-expr_fits sigs vars (expr.Atom a) t = atom_fits vars a t
-expr_fits sigs vars (expr.Call c) t = is_the_type t (call_type sigs vars c.callee c.args)
+abbrev pub after_item : Known → Item → Known
+after_item k (external v) = record k { globals = k.globals ++ v ∷ [] }
+after_item k (global v) = record k { globals = k.globals ++ v ∷ []; names = k.names ++ v.name ∷ [] }
+after_item k (declared t name params) = record k { functions = k.functions ++ signature_of (declared t name params) ∷ [] }
+after_item k (defined f) = record k { functions = k.functions ++ signature_of (defined f) ∷ []; names = k.names ++ f.name ∷ [] }
 
-abbrev pub assigned_fits : List Signature → List CVar → CExpr → Option CVar → Bool
-assigned_fits sigs vars e None = false
-assigned_fits sigs vars e (Some v) = expr_fits sigs vars e v.ty
+abbrev pub name_of_item : Item → List ℕ
+name_of_item i = (signature_of i).name
 
--- Statements --------------------------------------------------------------------------------
+abbrev pub breach : List ℕ → BadCause → Breach
+breach name cause = record { name = name; cause = cause }
 
--- statements without a loop, whose types agree, where the function gives the result type. A condition is an int
-abbrev pub code_fits : List Signature → List CVar → CTy → Code → Bool
-code_fits sigs vars result done = true
-code_fits sigs vars result (assign x e rest) = assigned_fits sigs vars e (variable_named vars x) && code_fits sigs vars result rest
-code_fits sigs vars result (call c rest) = has_type (call_type sigs vars c.callee c.args) && code_fits sigs vars result rest
-code_fits sigs vars result (return e rest) = expr_fits sigs vars e result && code_fits sigs vars result rest
-code_fits sigs vars result (test e a b rest) = expr_fits sigs vars e Int && (code_fits sigs vars result a && (code_fits sigs vars result b && code_fits sigs vars result rest))
-code_fits sigs vars result (loop l body rest) = false
+abbrev pub items_breaches : Known → List Item → List Breach
+items_breaches k [] = []
+items_breaches k (i ∷ is) = map (breach (name_of_item i)) (item_breaches k i) ++ items_breaches (after_item k i) is
 
--- the last statement is `return`
-abbrev pub returns_last : Code → Bool
-returns_last done = false
-returns_last (assign x e rest) = returns_last rest
-returns_last (call c rest) = returns_last rest
-returns_last (return e done) = true
-returns_last (return e rest) = returns_last rest
-returns_last (test e a b rest) = returns_last rest
-returns_last (loop l body rest) = false
+-- The end of the text -----------------------------------------------------------------------
 
--- Functions ---------------------------------------------------------------------------------
+-- the names that are read, set, called or taken as entries
+abbrev pub used_in_atom : CAtom → List (List ℕ)
+used_in_atom (atom.Name x) = x ∷ []
+used_in_atom _ = []
 
-abbrev pub variables_of : Fun → List CVar
-variables_of f = f.params ++ f.locals
+abbrev pub used_in_argument : CArg → List (List ℕ)
+used_in_argument (arg.Atom a) = used_in_atom a
+used_in_argument (arg.Str text) = []
+used_in_argument (arg.Entry name) = name ∷ []
 
--- the statements of a module's function are one labelled `for`
-abbrev pub is_looped : List Signature → List CVar → CTy → Code → Bool
-is_looped sigs vars result (loop l body done) = code_fits sigs vars result body
-is_looped sigs vars result _ = false
+abbrev pub used_in_call : CCall → List (List ℕ)
+used_in_call c = called_in c.callee ++ flat_map used_in_argument c.args
 
--- what a function is, by its name: `main`, the maker or the initialisation of a module, or a function of a module
-pub data Role : Type 0 where
-  Main : Role
-  Maker : Role
-  Initializer : Role
-  Function : Role
+abbrev pub used_in_expr : CExpr → List (List ℕ)
+used_in_expr (expr.Atom a) = used_in_atom a
+used_in_expr (expr.Call c) = used_in_call c
 
-abbrev pub role_of : List ℕ → Role
-role_of name = if is_main name then Main else (if is_maker name then Maker else (if is_initializer name then Initializer else Function))
+abbrev pub used_in : Code → List (List ℕ)
+used_in done = []
+used_in (assign x e rest) = x ∷ (used_in_expr e ++ used_in rest)
+used_in (call c rest) = used_in_call c ++ used_in rest
+used_in (return e rest) = used_in_expr e ++ used_in rest
+used_in (test e a b rest) = used_in_expr e ++ (used_in a ++ (used_in b ++ used_in rest))
+used_in (loop l body rest) = used_in body ++ used_in rest
+used_in (ended body l rest) = used_in body ++ used_in rest
+used_in (goto l rest) = used_in rest
+used_in (catch k r body rest) = used_in body ++ used_in rest
+used_in (protect a b rest) = used_in a ++ (used_in b ++ used_in rest)
 
--- a function without a loop takes `void`, gives a type, and ends with `return`
-abbrev pub is_straight : List Signature → CTy → Fun → Bool
-is_straight sigs t f = (same_type f.result t && same_types (map (λ v. v.ty) f.params) []) && (code_fits sigs f.locals t f.code && returns_last f.code)
+abbrev pub used_by : Item → List (List ℕ)
+used_by (defined f) = used_in f.code
+used_by _ = []
 
-abbrev pub has_shape : List Signature → Role → Fun → Bool
-has_shape sigs Main f = is_straight sigs Int f
-has_shape sigs Maker f = is_straight sigs Obj f
-has_shape sigs Initializer f = is_straight sigs Obj f
-has_shape sigs Function f = is_looped sigs (variables_of f) f.result f.code
+-- what is used is defined, and each maker and each initialisation is called
+abbrev pub wanted_breaches : List (List ℕ) → List (List ℕ) → List ℕ → List BadCause
+wanted_breaches used names name =
+    unless Undeclared (not (has used name) || has names name) ++ unless Shape (not (is_called_once name) || has used name)
 
-abbrev pub function_fits : List Signature → Fun → Bool
-function_fits sigs f = are_distinct (map (λ v. v.name) (variables_of f)) && has_shape sigs (role_of f.name) f
+abbrev pub ends_breaches : List (List ℕ) → List (List ℕ) → List Item → List Breach
+ends_breaches used names items = flat_map (λ i. map (breach (name_of_item i)) (wanted_breaches used names (name_of_item i))) items
 
--- `main` calls all but itself, a maker calls nothing, and the others call functions of modules
-abbrev pub may_call : Role → Role → Bool
-may_call Main Main = false
-may_call Main Maker = true
-may_call Main Initializer = true
-may_call Main Function = true
-may_call Maker r = false
-may_call Initializer Function = true
-may_call Initializer _ = false
-may_call Function Function = true
-may_call Function _ = false
+-- `main` is there
+abbrev pub main_breaches : List (List ℕ) → List Breach
+main_breaches names = map (breach (codes "main")) (unless Shape (list_any is_main names))
 
--- what a function may call: what is declared before it and defined in the text, by its role
-abbrev pub callable : Role → List (List ℕ) → List Signature → List Signature
-callable role names sigs = filter (λ s. may_call role (role_of s.name) && list_any (is_same s.name) names) sigs
+abbrev pub text_breaches : List Item → List Breach
+text_breaches items =
+    items_breaches (record { functions = []; globals = []; names = [] }) items
+    ++ (ends_breaches (flat_map used_by items) (defined_names items) items ++ main_breaches (defined_names items))
 
-abbrev pub item_fits : List (List ℕ) → List Signature → Item → Bool
-item_fits names sigs (declared t name params) = true
-item_fits names sigs (defined f) = function_fits (callable (role_of f.name) names sigs) f
+-- all that break a rule, in text order; at one token and for one name in the order of the causes
+unfoldable pub breaches : List Item → List Breach
+breaches items = text_breaches items
 
--- Programs ----------------------------------------------------------------------------------
+-- no rule is broken
+unfoldable pub IsChecked : List Item → Type 0
+IsChecked items = breaches items ≡ []
 
--- declarations of one name agree
-abbrev pub agrees : List Signature → Signature → Bool
-agrees sigs s = list_all (λ t. not (is_same t.name s.name) || same_signature t s) sigs
-
--- the items after those of these signatures, the newest first, where these names are defined in the text
-abbrev pub items_fit : List (List ℕ) → List Signature → List Item → Bool
-items_fit names sigs [] = true
-items_fit names sigs (i ∷ is) = (agrees sigs (signature_of i) && item_fits names sigs i) && items_fit names (signature_of i ∷ sigs) is
-
-abbrev pub defined_names : List Item → List (List ℕ)
-defined_names [] = []
-defined_names (declared t name params ∷ is) = defined_names is
-defined_names (defined f ∷ is) = f.name ∷ defined_names is
-
--- no rule is broken, and no function is defined twice
-unfoldable pub is_sound : List Item → Bool
-is_sound items = are_distinct (defined_names items) && items_fit (defined_names items) [] items
-
--- Whole programs ----------------------------------------------------------------------------
-
--- makers and initialisations are called once
-abbrev pub is_called_once : List ℕ → Bool
-is_called_once name = is_maker name || is_initializer name
-
--- those that a call names
-abbrev pub once_in_callee : Callee → List (List ℕ)
-once_in_callee (callee.Fun name) = if is_called_once name then name ∷ [] else []
-once_in_callee (callee.Op op) = []
-
-abbrev pub once_in_expr : CExpr → List (List ℕ)
-once_in_expr (expr.Atom a) = []
-once_in_expr (expr.Call c) = once_in_callee c.callee
-
--- and those that statements call, in text order
-abbrev pub once_in : Code → List (List ℕ)
-once_in done = []
-once_in (assign x e rest) = once_in_expr e ++ once_in rest
-once_in (call c rest) = once_in_callee c.callee ++ once_in rest
-once_in (return e rest) = once_in_expr e ++ once_in rest
-once_in (test e a b rest) = once_in_expr e ++ (once_in a ++ (once_in b ++ once_in rest))
-once_in (loop l body rest) = once_in body ++ once_in rest
-
-abbrev pub once_in_main : List Item → List (List ℕ)
-once_in_main [] = []
-once_in_main (declared t name params ∷ is) = once_in_main is
-once_in_main (defined f ∷ is) = if is_main f.name then once_in f.code else once_in_main is
-
--- each of these that is defined is among the called
-abbrev pub all_called : List (List ℕ) → List (List ℕ) → Bool
-all_called called names = list_all (λ name. not (is_called_once name) || list_any (is_same name) called) names
-
--- `main` calls each maker and each initialisation, at one place of its text
-abbrev pub calls_each_once : List Item → Bool
-calls_each_once items = are_distinct (once_in_main items) && all_called (once_in_main items) (defined_names items)
-
--- and `main` is there
-unfoldable pub is_checked : List Item → Bool
-is_checked items = is_sound items && (list_any is_main (defined_names items) && calls_each_once items)
-
-abbrev pub IsChecked : List Item → Type 0
-IsChecked items = IsTrue (is_checked items)
+-- the first rule that is broken
+abbrev pub IsFirstBreach : List Item → Breach → Type 0
+IsFirstBreach items b = slice_get (breaches items) 0 ≡ Some b

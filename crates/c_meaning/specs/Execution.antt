@@ -1,7 +1,7 @@
--- The meaning of C: big-step over statements. Each iteration of a labelled `for` first takes a turn.
+-- The meaning of C: big-step over statements. Each iteration of a labelled `for` first takes a turn. What no runnable program has (symbols, entries, `BGL_CATCH`, `BGL_PROTECT`) has no meaning yet, and fails.
 use Rattle.std.specs.Prelude.{ℕ, zero, suc, List, [], ◌∷◌, ◌++◌, map, if◌then◌else◌, Bool, Option, Some, None, find}
 use Rattle.scheme_data.specs.Names.{is_same}
-use Rattle.base_io.specs.declared.end.FaultKind.TheVariants.{Entry}
+use Rattle.base_io.specs.declared.end.FaultKind.TheVariants.{Entry, Tag}
 use Rattle.c_tree.specs.declared.tree.CAtom.{CAtom}
 use Rattle.c_tree.specs.declared.tree.CAtom.TheVariants as atoms
 use Rattle.c_tree.specs.declared.tree.CArg.{CArg}
@@ -10,7 +10,7 @@ use Rattle.c_tree.specs.declared.tree.Callee.{Callee}
 use Rattle.c_tree.specs.declared.tree.Callee.TheVariants as callee
 use Rattle.c_tree.specs.declared.tree.CExpr.{CExpr}
 use Rattle.c_tree.specs.declared.tree.CExpr.TheVariants as expr
-use Rattle.c_tree.specs.Code.{Code, done, assign, call, return, test, loop, Fun}
+use Rattle.c_tree.specs.Code.{Code, done, assign, call, return, test, loop, ended, goto, catch, protect, Fun}
 use Rattle.c_meaning.specs.Word.{False, True, Nil, Unspec, Eof}
 use Rattle.c_meaning.specs.State.{Cell, AWord, ANumber, State, Frame, put, blank, frame_of, Answer, Has, Faults, Flow, Next, Goes, Returns, Escapes, Raises, Spends, Fails, with, chosen, after, answer, take_turn}
 use Rattle.c_meaning.specs.Operations.{Argument, ACell, AString, operate}
@@ -30,6 +30,7 @@ names_of f = map (λ v. v.name) (f.params ++ f.locals)
 abbrev pub atom : Names → Frame → CAtom → Cell
 atom names f (atoms.Int n) = ANumber n
 atom names f (atoms.Name x) = f (position_of x names)
+atom names f (atoms.Sym x) = AWord Unspec
 atom names f atoms.False = AWord False
 atom names f atoms.True = AWord True
 atom names f atoms.Nil = AWord Nil
@@ -39,6 +40,7 @@ atom names f atoms.Eof = AWord Eof
 abbrev pub argument : Names → Frame → CArg → Argument
 argument names f (arg.Atom a) = ACell (atom names f a)
 argument names f (arg.Str text) = AString text
+argument names f (arg.Entry name) = AString name
 
 abbrev pub arguments : Names → Frame → List CArg → List Argument
 arguments names f args = map (argument names f) args
@@ -78,6 +80,10 @@ looped lower names (assign x e rest) f s = Fails Entry s
 looped lower names (call c rest) f s = Fails Entry s
 looped lower names (return e rest) f s = Fails Entry s
 looped lower names (test e a b rest) f s = Fails Entry s
+looped lower names (ended body l rest) f s = Fails Entry s
+looped lower names (goto l rest) f s = Fails Entry s
+looped lower names (catch k r body rest) f s = Fails Entry s
+looped lower names (protect a b rest) f s = Fails Entry s
 
 abbrev pub enter : Lower → Option Fun → List Cell → State → Answer
 enter lower (Some f) cs s = answer (looped lower (names_of f) f.code (entry f cs) s)
@@ -88,6 +94,16 @@ is_called name f = is_same f.name name
 
 abbrev pub fun_named : List Fun → List ℕ → Option Fun
 fun_named p name = find (is_called name) p
+
+-- a `goto` behind a block goes on after its label
+abbrev pub arrived : List ℕ → Flow → Flow
+arrived l (Next f s) = Next f s
+arrived l (Goes l' f s) = if is_same l' l then Next f s else Goes l' f s
+arrived l (Returns c s) = Returns c s
+arrived l (Escapes x w f s) = Escapes x w f s
+arrived l (Raises c t s) = Raises c t s
+arrived l (Spends s) = Spends s
+arrived l (Fails k s) = Fails k s
 
 -- A function's statements, where functions that are called do this.
 module _ (p : List Fun) (called : Option Fun → List Cell → State → Answer) (lower : Lower) where
@@ -107,6 +123,10 @@ module _ (p : List Fun) (called : Option Fun → List Cell → State → Answer)
   exec_by names (test e a b rest) f s =
       with (eval_by names e f s) f (λ c s1. after (chosen c s1 (exec_by names a f s1) (exec_by names b f s1)) (λ f1 s2. exec_by names rest f1 s2))
   exec_by names (loop l body rest) f s = after (iterate lower names l body f s) (λ f1 s1. exec_by names rest f1 s1)
+  exec_by names (ended body l rest) f s = after (arrived l (exec_by names body f s)) (λ f1 s1. exec_by names rest f1 s1)
+  exec_by names (goto l rest) f s = Goes l f s
+  exec_by names (catch k r body rest) f s = Fails Tag s
+  exec_by names (protect a b rest) f s = Fails Tag s
 
 -- in a function of a module, in a maker and in an initialisation: they call functions of modules alone
 abbrev pub exec : List Fun → Lower → Names → Code → Frame → State → Flow

@@ -1,7 +1,11 @@
+pub mod BreachRows
+pub mod Breaches
 pub mod Checked
 pub mod Execution
 pub mod Operations
+pub mod Plain
 pub mod Program
 pub mod Rows
+pub mod Runnable
 pub mod State
 pub mod Word

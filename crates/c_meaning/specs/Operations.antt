@@ -1,10 +1,10 @@
 -- The operations on cells. Arguments that no checked program gives them make a fault.
-use Rattle.std.specs.Prelude.{ℕ, List, [], ◌∷◌, ◌++◌, nat_lt, ℤ, pos, negsuc, ◌+ℤ◌, int_lt, Bool, true, false, nat_eq, if◌then◌else◌, ◌&&◌, Option, Some, slice_get}
+use Rattle.std.specs.Prelude.{ℕ, List, [], ◌∷◌, ◌++◌, nat_lt, ℤ, pos, negsuc, ◌+ℤ◌, int_lt, Bool, true, false, nat_eq, if◌then◌else◌, ◌&&◌, Option, Some, None, slice_get}
 use Rattle.scheme_data.specs.Fixnum.{is_fixnum}
 use Rattle.base_io.specs.declared.end.FaultKind.TheVariants.{Tag}
 use Rattle.prim_table.specs.Errors.{number_of}
 use Rattle.prim_table.specs.declared.errors.ErrCode.TheVariants.{WrongType, Range}
-use Rattle.built_table.specs.Table.{name_of, type_name}
+use Rattle.built_table.specs.Table.{built, name_of, type_name}
 use Rattle.built_table.specs.declared.primitives.Ty.TheVariants as types
 use Rattle.built_table.specs.declared.primitives.Primitive.{Primitive}
 use Rattle.built_table.specs.declared.primitives.Primitive.TheVariants.{Add, Less, Display, Newline}
@@ -131,6 +131,11 @@ does Less args s = Has (ANumber (truth_number (int_lt (number_at args 0) (number
 does Display args s = Has (AWord Unspec) (print (printed (word_at args 0)) s)
 does Newline args s = Has (AWord Unspec) (print (10 ∷ []) s)
 
+abbrev pub does_built : Option Primitive → List Argument → State → Answer
+does_built None args s = Faults Tag s
+does_built (Some p) args s = does p args s
+
+-- No runnable program has an operation without a row here.
 -- the argument list of the program stands as the empty list as long as no program can look at it
 abbrev pub done : Op → List Argument → State → Answer
 done BoxLong args s = Has (AWord (Fixnum (number_at args 0))) s
@@ -140,7 +145,8 @@ done Truth args s = Has (ANumber (truth_number (is_true (word_at args 0)))) s
 done Raise args s = stops (number_at args 0) (text_at args 1) s
 done Args args s = Has (AWord Nil) s
 done Status args s = Has (ANumber (pos (status_in (word_at args 0)))) s
-done (Does p) args s = does p args s
+done (Does p) args s = does_built (built p) args s
+done _ args s = Faults Tag s
 
 abbrev pub operate : Op → List Argument → State → Answer
 operate op args s = if are_wanted (wants_of op) args then done op args s else Faults Tag s

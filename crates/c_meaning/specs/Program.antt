@@ -6,12 +6,14 @@ use Rattle.base_io.specs.declared.end.End.TheVariants.{Ended, Raised, Spent, Fau
 use Rattle.base_io.specs.declared.end.FaultKind.TheVariants.{Tag, Entry}
 use Rattle.prim_table.specs.Errors.{number_of}
 use Rattle.prim_table.specs.declared.errors.ErrCode.TheVariants.{DeadExit}
-use Rattle.c_tree.specs.Code.{Fun, Item, declared, defined}
+use Rattle.c_tree.specs.Code.{Fun, Item, external, global, declared, defined}
 use Rattle.c_meaning.specs.State.{Cell, AWord, ANumber, State, Flow, Next, Goes, Returns, Escapes, Raises, Spends, Fails}
 use Rattle.c_meaning.specs.Execution.{names_of, entry, exec_main, run, fun_named}
 
 abbrev pub functions_of : List Item → List Fun
 functions_of [] = []
+functions_of (external v ∷ items) = functions_of items
+functions_of (global v ∷ items) = functions_of items
 functions_of (declared ty name params ∷ items) = functions_of items
 functions_of (defined f ∷ items) = f ∷ functions_of items
 

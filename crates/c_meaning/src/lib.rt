@@ -1,2 +1,6 @@
-//! The meaning of the C subset: definitions of words, runs and checked programs, written without the compiler.
+//! The meaning of the C subset: definitions of words, runs, rules and checked programs, written without the compiler.
 #![tactic(auto)]
+
+mod breach;
+
+pub use breach::{BadCause, Breach};
