@@ -7,16 +7,17 @@ use Rattle.std.specs.Cmp.Lexicographic.{nat_list_eq_equiv, bytes_decides}
 use Rattle.scheme_data.specs.Names.{is_same}
 use Rattle.c_tree.specs.declared.tree.CTy.{CTy}
 use Rattle.c_tree.specs.declared.tree.CVar.{CVar}
-use Rattle.c_meaning.specs.Checked.{signature_named, variable_named}
+use Rattle.c_meaning.specs.Plain.{signature_named, variable_named}
 use Rattle.c_check.specs.Entries.{variable_of_entry, variables_of_entries, signature_of_entry, signatures_of_entries}
 use Rattle.c_check.specs.Keys.{has_key}
 use Rattle.c_check.specs.Signatures.{signed}
-use Rattle.c_check.specs.Variables.{has_variable, type_of, type_named}
+use Rattle.c_meaning.specs.Breaches.{type_of}
+use Rattle.c_check.specs.Variables.{has_variable}
 use Rattle.c_check.specs.declared.declared.Shape.{Shape}
 
 -- Variables -------------------------------------------------------------------------------------
 
-pub type-lookup : (name : List ℕ) (es : List (List ℕ × CTy)) → lookup (is_same name) es ≡ type_named (variables_of_entries es) name
+pub type-lookup : (name : List ℕ) (es : List (List ℕ × CTy)) → lookup (is_same name) es ≡ type_of (variable_named (variables_of_entries es) name)
 type-lookup name [] = refl
 type-lookup name (e ∷ es) =
     (λ i. cond (nat_list_eq_equiv.symm name e.0 i) (Some e.1) (type-lookup name es i))

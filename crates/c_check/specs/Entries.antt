@@ -2,7 +2,7 @@
 use Rattle.std.specs.Prelude.{ℕ, List, map}
 use Rattle.c_tree.specs.declared.tree.CTy.{CTy}
 use Rattle.c_tree.specs.declared.tree.CVar.{CVar}
-use Rattle.c_meaning.specs.Checked.{Signature}
+use Rattle.c_meaning.specs.Plain.{Signature}
 use Rattle.c_check.specs.Signatures.{signed}
 use Rattle.c_check.specs.declared.declared.Shape.{Shape}
 

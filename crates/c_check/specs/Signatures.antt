@@ -1,16 +1,11 @@
 -- Signatures with distinct names, as the first of each name that was declared.
-use Rattle.std.specs.Prelude.{ℕ, List, [], ◌∷◌, ◌++◌, Bool, true, Option, Some, None}
-use Rattle.c_meaning.specs.Checked.{Signature, same_signature, signature_named}
+use Rattle.std.specs.Prelude.{ℕ, List, [], ◌∷◌, ◌++◌, Option, Some, None}
+use Rattle.c_meaning.specs.Plain.{Signature, signature_named}
 use Rattle.c_check.specs.declared.declared.Shape.{Shape}
 
 -- a function's types under a name
 abbrev pub signed : List ℕ → Shape → Signature
 signed name shape = record { name = name; result = shape.gives; params = shape.params }
-
--- whether a signature agrees with the first of its name
-abbrev pub agrees_with : Option Signature → Signature → Bool
-agrees_with None s = true
-agrees_with (Some t) s = same_signature t s
 
 abbrev pub or_added : Option Signature → List Signature → Signature → List Signature
 or_added None table s = table ++ s ∷ []

@@ -3,17 +3,18 @@ ghost use Rattle.c_tree.specs.Functions.{items_of};
 ghost use Rattle.c_meaning.specs.Checked.{IsChecked};
 ghost use Rattle.c_check.specs.Answers.{ChecksTo};
 
-use crate::program::is_checked;
+use crate::ends::first_breach;
+use c_meaning::Breach;
 use c_tree::CProgram;
 use scheme_data::OutOfMemory;
 use std::alloc::Global;
 use std::marker::Model;
 
 /// Why a program isn't accepted.
-#[derive(Clone, Copy, Debug, PartialEq, Eq)]
+#[derive(Drop, Debug)]
 pub enum CheckErr {
-    /// It breaks a rule.
-    NotChecked,
+    /// It breaks a rule; the breach is the first in text order.
+    BadC(Breach),
     /// Memory was wanted and not given.
     Memory,
 }
@@ -50,13 +51,13 @@ impl Model for Checked {
 }
 
 /// Keeps the program, exactly where it breaks no rule; a refused one is dropped.
+/// A `BadC` is the first breach in text order, and a `Memory` comes only for want of memory.
 pub fn check(alloc: Global, p: CProgram) -> Result<Checked, CheckErr>
     ensures { ChecksTo p result }
 {
-    if is_checked(alloc, p.items.as_slice())? {
-        Ok(Checked { program: p })
-    } else {
-        Err(CheckErr::NotChecked)
+    match first_breach(alloc, p.items.as_slice())? {
+        None => Ok(Checked { program: p }),
+        Some(breach) => Err(CheckErr::BadC(breach)),
     }
 }
 

@@ -1,12 +1,12 @@
-ghost use Rattle.std.specs.Prelude.{◌≡◌, [], ◌∷◌, ◌++◌, map, None, true, IfOk, OnOk, option_copied};
+ghost use Rattle.std.specs.Prelude.{◌≡◌, [], ◌∷◌, ◌++◌, map, None, IfOk, OnOk, option_copied};
 ghost use Rattle.std.specs.Option.{option_map};
-ghost use Rattle.c_tree.specs.Functions.{item_of};
-ghost use Rattle.c_meaning.specs.Checked.{signature_of, signature_named, same_signature};
-ghost use Rattle.c_check.specs.Signatures.{signed, agrees_with, with_signature};
+ghost use Rattle.c_tree.specs.Code.{defined};
+ghost use Rattle.c_tree.specs.Functions.{fun_of};
+ghost use Rattle.c_meaning.specs.Plain.{signature_of, signature_named};
+ghost use Rattle.c_check.specs.Signatures.{signed, with_signature};
 
 use crate::named::Named;
-use crate::types::{same_type, same_types};
-use c_tree::{CItem, CTy, CVar};
+use c_tree::{CFun, CTy, CVar};
 use scheme_data::{List, OutOfMemory};
 use std::alloc::Global;
 use std::marker::Model;
@@ -21,13 +21,12 @@ pub struct Shape {
 /// Signatures with distinct names, each found by its name.
 #[derive(Drop)]
 pub struct Declared {
-    alloc: Global,
     shapes: Named<Shape>,
 }
 
 impl Model for Declared {
     ghost use Rattle.std.specs.Prelude.{List};
-    ghost use Rattle.c_meaning.specs.Checked.{Signature};
+    ghost use Rattle.c_meaning.specs.Plain.{Signature};
     ghost use Rattle.c_check.specs.Entries.{signatures_of_entries};
 
     ghost Value = { List Signature };
@@ -55,36 +54,26 @@ fn types_of(alloc: Global, vars: &[CVar]) -> Result<List<CTy>, OutOfMemory>
     Ok(types)
 }
 
-fn name_of(item: &CItem) -> &[u8]
-    ensures { result.now ≡ (signature_of (item_of item.now)).name }
-{
-    match item {
-        CItem::Declared(_, name, _) => name.as_bytes(),
-        CItem::Defined(f) => f.name.as_bytes(),
-    }
-}
-
 impl Shape {
-    fn of(alloc: Global, item: &CItem) -> Result<Shape, OutOfMemory>
-        ensures { IfOk result (λ shape. signed (signature_of (item_of item.now)).name shape ≡ signature_of (item_of item.now)) }
+    /// Of a declaration.
+    pub fn of(alloc: Global, gives: CTy, params: &[CTy]) -> Result<Shape, OutOfMemory>
+        ensures gives { IfOk result (λ shape. shape.gives ≡ gives) }
+        ensures params { IfOk result (λ shape. shape.params ≡ params.now) }
     {
-        match item {
-            CItem::Declared(gives, _, params) => Ok(Shape {
-                gives: *gives,
-                params: copied(alloc, params.as_slice())?,
-            }),
-            CItem::Defined(f) => Ok(Shape {
-                gives: f.result,
-                params: types_of(alloc, f.params.as_slice())?,
-            }),
-        }
+        Ok(Shape {
+            gives,
+            params: copied(alloc, params)?,
+        })
     }
 
-    fn is_same(&self, other: &Shape) -> bool
-        ensures { result ≡ same_signature (signed [] self.now) (signed [] other.now) }
+    /// Of a definition.
+    pub fn of_function(alloc: Global, f: &CFun) -> Result<Shape, OutOfMemory>
+        ensures { IfOk result (λ shape. signed f.now.name shape ≡ signature_of (defined (fun_of f.now))) }
     {
-        same_type(self.gives, other.gives)
-            && same_types(self.params.as_slice(), other.params.as_slice())
+        Ok(Shape {
+            gives: f.result,
+            params: types_of(alloc, f.params.as_slice())?,
+        })
     }
 }
 
@@ -94,7 +83,6 @@ impl Declared {
         ensures { result ≡ [] }
     {
         Declared {
-            alloc,
             shapes: Named::new(alloc),
         }
     }
@@ -114,17 +102,13 @@ impl Declared {
         Ok(())
     }
 
-    /// Adds an item's signature where its name is new, and says whether it agrees with an earlier one of the name.
-    pub fn declare(&mut self, item: &CItem) -> Result<bool, OutOfMemory>
-        ensures agreed { IfOk result (λ agreed. agreed ≡ agrees_with (signature_named self.old (signature_of (item_of item.now)).name) (signature_of (item_of item.now))) }
-        ensures ok { IfOk result (λ agreed. agreed ≡ true → self.new ≡ with_signature self.old (signature_of (item_of item.now))) }
+    /// Adds a signature where its name is new.
+    pub fn declare(&mut self, name: &[u8], shape: Shape) -> Result<(), OutOfMemory>
+        ensures { OnOk result (self.new ≡ with_signature self.old (signed name.now shape)) }
     {
-        let shape = Shape::of(self.alloc, item)?;
-        let name = name_of(item);
-        if let Some(first) = self.shape(name) {
-            return Ok(first.is_same(&shape));
+        if self.shape(name).is_some() {
+            return Ok(());
         }
-        self.add(name, shape)?;
-        Ok(true)
+        self.add(name, shape)
     }
 }

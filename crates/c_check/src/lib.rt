@@ -1,16 +1,27 @@
 //! Checks C programs: accepts exactly those that break no rule.
 #![tactic(auto)]
 
+mod asked;
+mod blocks;
+mod causes;
 mod checking;
+mod code;
 mod declared;
-mod functions;
+mod ends;
+mod heads;
+mod items;
+mod known;
 mod named;
-mod once;
-mod program;
 mod role;
+mod room;
 mod scope;
 mod statements;
+mod steps;
 mod types;
+mod used;
 mod variables;
 
 pub use checking::{CheckErr, Checked, check};
+
+#[cfg(test)]
+mod tests;

@@ -1,7 +1,7 @@
 ghost use Rattle.std.specs.Prelude.{◌≡◌, [], ◌∷◌, ◌++◌, false, option_copied, slice_get, OnOk};
 ghost use Rattle.std.specs.Map.{lookup};
 ghost use Rattle.scheme_data.specs.Names.{is_same};
-ghost use Rattle.c_check.specs.Keys.{has_key};
+ghost use Rattle.c_check.specs.Keys.{has_key, IsSet};
 
 use name_table::NameTable;
 use scheme_data::OutOfMemory;
@@ -77,5 +77,21 @@ impl<T: Drop> Named<T> {
             return Err(error);
         }
         Ok(())
+    }
+
+    /// Puts a value under a name, in place of that which it has.
+    pub fn set(&mut self, name: &[u8], value: T) -> Result<(), OutOfMemory>
+        ensures { OnOk result (IsSet self.old name.now value self.new) }
+    {
+        match self.names.position(name) {
+            Some(place) => {
+                self.values[place] = value;
+                Ok(())
+            }
+            None => {
+                self.add(name, value)?;
+                Ok(())
+            }
+        }
     }
 }

@@ -1,176 +1,200 @@
-ghost use Rattle.std.specs.Prelude.{◌≡◌, map, option_copied, slice_get};
+ghost use Rattle.std.specs.Prelude.{◌≡◌, is_some, option_copied, map};
 ghost use Rattle.std.specs.Option.{option_map};
-ghost use Rattle.std.specs.List.{list_all};
-ghost use Rattle.c_tree.specs.declared.op.Wants.TheVariants.{AType};
 ghost use Rattle.c_tree.specs.Operations.{wants_of};
-ghost use Rattle.c_meaning.specs.Checked.{atom_fits, argument_fits, arguments_fit, signature_named, call_fits_signature, call_type, expr_fits, assigned_fits, variable_named};
+ghost use Rattle.c_meaning.specs.Plain.{signature_named, variable_named, role_of};
+ghost use Rattle.c_meaning.specs.Breaches.{variable_type, atom_breaches, misplaced, argument_breaches, arguments_breaches, is_declared, result_asked, may_call, callee_breaches, operands_breaches, first_breaches, later_breaches, expr_breaches, local_breaches, standing};
+ghost use Rattle.c_check.specs.Firsts.{first};
 ghost use Rattle.c_check.specs.Signatures.{signed};
-ghost use Rattle.c_check.specs.Scopes.{functions_of, variables_of, operand_fits, operation_type, statement_fits};
+ghost use Rattle.c_check.specs.Asked.{wants_in, asks_more, wants_by, takes_more_by};
+ghost use Rattle.c_check.specs.Scopes.{scope_of};
 
+use crate::asked::Asked;
+use crate::blocks::Blocks;
+use crate::causes::{name_fault, unless};
 use crate::declared::{Declared, Shape};
 use crate::role::Role;
-use crate::types::{is_error, is_the_type, number_fits, same_type};
+use crate::room::Room;
+use crate::types::{is_asked, is_written, number_asked};
 use crate::variables::Variables;
-use c_tree::{CArg, CAtom, CCall, CExpr, CStmt, CTy, Callee, Op, Wants};
+use c_meaning::BadCause;
+use c_tree::{CArg, CAtom, CCall, CExpr, CTy, Callee, Wants};
 use name_table::NameTable;
+use scheme_data::{Stack, Text};
+use std::alloc::Global;
 
-/// What the statements of a function with a role may name.
+/// What may be named and done where a statement of a function stands.
 #[derive(Drop)]
 pub struct Scope<'a> {
+    pub alloc: Global,
     pub role: Role,
-    pub defined: &'a NameTable,
-    pub declared: &'a Declared,
+    pub gives: CTy,
+    /// Of the functions and globals that are declared so far.
+    pub functions: &'a Declared,
+    pub globals: &'a Variables,
     pub variables: Variables,
+    /// So far in the function.
+    pub labels: NameTable,
+    pub called: NameTable,
+    pub blocks: Blocks,
+    pub room: Room,
+    /// The labels behind the blocks that begin further on, in text order.
+    pub ahead: Stack<Text>,
 }
 
 impl<'a> Scope<'a> {
-    fn atom_fits(&self, atom: &CAtom, t: CTy) -> bool
-        ensures { result ≡ atom_fits (variables_of self.now) atom.now t }
+    /// The type of a local or of a global that is declared.
+    pub fn variable_type(&self, x: &[u8]) -> Option<CTy>
+        ensures { result ≡ variable_type (scope_of self.now) x.now }
+    {
+        self.variables.type_of(x).or(self.globals.type_of(x))
+    }
+
+    fn is_declared(&self, name: &[u8]) -> bool
+        ensures { result ≡ is_declared (scope_of self.now) name.now }
+    {
+        self.functions.shape(name).is_some()
+    }
+
+    fn atom_fault(&self, asked: Option<CTy>, atom: &CAtom) -> Option<BadCause>
+        ensures { result ≡ first (atom_breaches (scope_of self.now) asked atom.now) }
     {
         match atom {
-            CAtom::Int(n) => number_fits(*n, t),
-            CAtom::Name(x) => is_the_type(t, self.variables.type_of(x.as_bytes())),
-            CAtom::False => same_type(t, CTy::Obj),
-            CAtom::True => same_type(t, CTy::Obj),
-            CAtom::Nil => same_type(t, CTy::Obj),
-            CAtom::Unspec => same_type(t, CTy::Obj),
-            CAtom::Eof => same_type(t, CTy::Obj),
+            CAtom::Int(n) => unless(BadCause::Types, number_asked(asked, *n)),
+            CAtom::Name(x) => name_fault(asked, self.variable_type(x.as_bytes())),
+            CAtom::Sym(_) => unless(BadCause::Types, is_asked(asked, CTy::Obj)),
+            CAtom::False => unless(BadCause::Types, is_asked(asked, CTy::Obj)),
+            CAtom::True => unless(BadCause::Types, is_asked(asked, CTy::Obj)),
+            CAtom::Nil => unless(BadCause::Types, is_asked(asked, CTy::Obj)),
+            CAtom::Unspec => unless(BadCause::Types, is_asked(asked, CTy::Obj)),
+            CAtom::Eof => unless(BadCause::Types, is_asked(asked, CTy::Obj)),
         }
     }
 
-    fn argument_fits(&self, wants: Wants, arg: &CArg) -> bool
-        ensures { result ≡ argument_fits (variables_of self.now) wants arg.now }
+    // What is wrong with an argument where none of its kind is asked for.
+    fn misplaced(&self, arg: &CArg) -> Option<BadCause>
+        ensures { result ≡ first (misplaced (scope_of self.now) arg.now) }
+    {
+        match arg {
+            CArg::Atom(CAtom::Name(x)) => {
+                unless(
+                    BadCause::Undeclared,
+                    self.variable_type(x.as_bytes()).is_some(),
+                )
+                .or(Some(BadCause::Types))
+            }
+            _ => Some(BadCause::Types),
+        }
+    }
+
+    fn wanted_fault(&self, wants: Wants, arg: &CArg) -> Option<BadCause>
+        ensures { result ≡ first (argument_breaches (scope_of self.now) (Some wants) arg.now) }
     {
         match (wants, arg) {
-            (Wants::AType(t), CArg::Atom(atom)) => self.atom_fits(atom, t),
-            (Wants::AnError, CArg::Atom(CAtom::Int(n))) => is_error(*n),
-            (Wants::AText, CArg::Str(_)) => true,
-            _ => false,
+            (Wants::AType(t), CArg::Atom(atom)) => self.atom_fault(Some(t), atom),
+            (Wants::AText, CArg::Str(_)) => None,
+            (Wants::AnEntry, CArg::Entry(name)) => {
+                unless(BadCause::Undeclared, self.is_declared(name.as_bytes()))
+            }
+            (_, CArg::Atom(CAtom::Int(n))) => unless(BadCause::Types, is_written(wants, *n)),
+            _ => self.misplaced(arg),
         }
     }
 
-    fn arguments_fit(&self, types: &[CTy], args: &[CArg]) -> bool
-        ensures { result ≡ arguments_fit (variables_of self.now) (map AType types.now) args.now }
+    fn argument_fault(&self, asked: Option<Wants>, arg: &CArg) -> Option<BadCause>
+        ensures { result ≡ first (argument_breaches (scope_of self.now) asked arg.now) }
     {
-        if types.len() != args.len() {
-            return false;
+        match asked {
+            None => self.misplaced(arg),
+            Some(wants) => self.wanted_fault(wants, arg),
         }
+    }
+
+    fn arguments_fault(&self, asked: &Asked<'_>, args: &[CArg]) -> Option<BadCause>
+        ensures { result ≡ first (arguments_breaches (scope_of self.now) (wants_in asked.now) (asks_more asked.now) args.now) }
+    {
         for i in 0..args.len() {
-            if !self.argument_fits(Wants::AType(types[i]), &args[i]) {
-                return false;
+            let fault = self.argument_fault(asked.at(i), &args[i]);
+            if fault.is_some() {
+                return fault;
             }
         }
-        true
+        unless(BadCause::Types, asked.count() <= args.len())
     }
 
-    // Whether an argument is what an operation wants at a place.
-    fn operand_fits(&self, op: Op, place: usize, arg: &CArg) -> bool
-        ensures { result ≡ operand_fits (variables_of self.now) (slice_get (wants_of op) place) arg.now }
+    fn result_fits(&self, asked: Option<CTy>, name: &[u8]) -> bool
+        ensures { result ≡ result_asked asked (signature_named (scope_of self.now).functions name.now) }
     {
-        match op.wants(place) {
-            None => false,
-            Some(wants) => self.argument_fits(wants, arg),
+        match self.functions.shape(name) {
+            None => true,
+            Some(shape) => is_asked(asked, shape.gives),
         }
     }
 
-    fn operation_fits(&self, op: Op, args: &[CArg]) -> bool
-        ensures { result ≡ arguments_fit (variables_of self.now) (wants_of op) args.now }
+    /// What is wrong with a call at the name of what is called.
+    pub fn callee_fault(&self, asked: Option<CTy>, callee: &Callee) -> Option<BadCause>
+        ensures { result ≡ first (callee_breaches (scope_of self.now) asked callee.now) }
     {
-        if op.arity() != args.len() {
-            return false;
+        match callee {
+            Callee::Fun(name) => self.function_fault(asked, name.as_bytes()),
+            Callee::Op(op) => unless(BadCause::Types, is_asked(asked, op.gives())).or(unless(
+                BadCause::Shape,
+                self.role.may_do(*op),
+            )),
         }
-        for place in 0..args.len() {
-            if !self.operand_fits(op, place, &args[place]) {
-                return false;
-            }
-        }
-        true
     }
 
-    // The types of a function that may be called.
-    fn callable(&self, name: &[u8]) -> Option<&Shape>
-        ensures { option_map (signed name.now) (option_copied result) ≡ signature_named (functions_of self.now) name.now }
+    fn function_fault(&self, asked: Option<CTy>, name: &[u8]) -> Option<BadCause>
+        ensures { result ≡ first (callee_breaches (scope_of self.now) asked (Callee.Fun name.now)) }
     {
-        if !self.role.may_call(Role::of(name)) {
-            return None;
-        }
-        if !self.defined.contains(name) {
-            return None;
-        }
-        self.declared.shape(name)
+        unless(BadCause::Undeclared, self.is_declared(name)).or(unless(
+            BadCause::Types,
+            self.result_fits(asked, name),
+        ).or(unless(BadCause::Shape, self.role.may_call(&self.called, name))))
     }
 
-    fn function_type(&self, name: &[u8], args: &[CArg]) -> Option<CTy>
-        ensures { result ≡ call_fits_signature (variables_of self.now) (signature_named (functions_of self.now) name.now) args.now }
+    fn asked_by(&self, callee: &Callee) -> Asked<'_>
+        ensures wants { wants_in result ≡ wants_by (scope_of self.now) callee.now }
+        ensures more { asks_more result ≡ takes_more_by callee.now }
     {
-        match self.callable(name) {
-            None => None,
-            Some(shape) => {
-                if self.arguments_fit(shape.params.as_slice(), args) {
-                    Some(shape.gives)
-                } else {
-                    None
-                }
-            }
+        match callee {
+            Callee::Fun(name) => match self.functions.shape(name.as_bytes()) {
+                None => Asked::Nothing,
+                Some(shape) => Asked::Types(shape.params.as_slice()),
+            },
+            Callee::Op(op) => Asked::Of(*op),
         }
     }
 
-    fn operation_type(&self, op: Op, args: &[CArg]) -> Option<CTy>
-        ensures { result ≡ operation_type (variables_of self.now) op args.now }
+    /// What is wrong with a call behind its name.
+    pub fn operands_fault(&self, call: &CCall) -> Option<BadCause>
+        ensures { result ≡ first (operands_breaches (scope_of self.now) call.now call.now.callee) }
     {
-        if self.operation_fits(op, args) {
-            Some(op.gives())
-        } else {
-            None
-        }
+        self.arguments_fault(&self.asked_by(&call.callee), call.args.as_slice())
     }
 
-    fn call_type(&self, call: &CCall) -> Option<CTy>
-        ensures { result ≡ call_type (functions_of self.now) (variables_of self.now) call.now.callee call.now.args }
-    {
-        match &call.callee {
-            Callee::Fun(name) => self.function_type(name.as_bytes(), call.args.as_slice()),
-            Callee::Op(op) => self.operation_type(*op, call.args.as_slice()),
-        }
-    }
-
-    fn expression_fits(&self, e: &CExpr, t: CTy) -> bool
-        ensures { result ≡ expr_fits (functions_of self.now) (variables_of self.now) e.now t }
+    /// What is wrong with an expression, where a type is asked for.
+    pub fn expression_fault(&self, asked: Option<CTy>, e: &CExpr) -> Option<BadCause>
+        ensures { result ≡ first (expr_breaches (scope_of self.now) asked e.now) }
     {
         match e {
-            CExpr::Atom(atom) => self.atom_fits(atom, t),
-            CExpr::Call(call) => is_the_type(t, self.call_type(call)),
+            CExpr::Atom(atom) => self.atom_fault(asked, atom),
+            CExpr::Call(call) => self
+                .callee_fault(asked, &call.callee)
+                .or(self.operands_fault(call)),
         }
     }
 
-    fn assigned_fits(&self, x: &[u8], e: &CExpr) -> bool
-        ensures { result ≡ assigned_fits (functions_of self.now) (variables_of self.now) e.now (variable_named (variables_of self.now) x.now) }
+    /// What is wrong with a local in which an object is kept.
+    pub fn local_fault(&self, x: &[u8]) -> Option<BadCause>
+        ensures { result ≡ first (local_breaches (scope_of self.now) x.now) }
     {
-        match self.variables.type_of(x) {
-            None => false,
-            Some(t) => self.expression_fits(e, t),
-        }
+        name_fault(Some(CTy::Obj), self.variables.type_of(x))
     }
 
-    // Whether a statement fits, whatever stands in its blocks.
-    fn statement_fits(&self, statement: &CStmt, returned: CTy) -> bool
-        ensures { result ≡ statement_fits (functions_of self.now) (variables_of self.now) returned statement.now }
+    /// What is wrong with a statement that is no loop at its first token.
+    pub fn standing_fault(&self) -> Option<BadCause>
+        ensures { result ≡ first (standing (scope_of self.now)) }
     {
-        match statement {
-            CStmt::Assign(x, e) => self.assigned_fits(x.as_bytes(), e),
-            CStmt::Call(call) => self.call_type(call).is_some(),
-            CStmt::Return(e) => self.expression_fits(e, returned),
-            CStmt::If(condition, _, _) => self.expression_fits(condition, CTy::Int),
-            CStmt::Loop(_, _) => false,
-        }
-    }
-
-    /// Whether each of the statements fits, where the function gives this type.
-    pub fn statements_fit(&self, statements: &[CStmt], returned: CTy) -> bool
-        ensures { result ≡ list_all (statement_fits (functions_of self.now) (variables_of self.now) returned) statements.now }
-    {
-        statements
-            .iter()
-            .all(|statement| self.statement_fits(statement, returned))
+        unless(BadCause::Shape, self.room.may_hold(false))
     }
 }

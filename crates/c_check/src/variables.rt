@@ -1,11 +1,10 @@
-ghost use Rattle.std.specs.Prelude.{◌≡◌, [], ◌∷◌, ◌++◌, not, true, IfOk};
-ghost use Rattle.c_tree.specs.Functions.{fun_of};
-ghost use Rattle.c_meaning.specs.Checked.{variables_of};
-ghost use Rattle.c_check.specs.Names.{are_fresh};
-ghost use Rattle.c_check.specs.Variables.{has_variable, type_named, names_of, MakesVariables};
+ghost use Rattle.std.specs.Prelude.{◌≡◌, [], ◌∷◌, ◌++◌, not, if◌then◌else◌, IfOk};
+ghost use Rattle.c_meaning.specs.Plain.{variable_named};
+ghost use Rattle.c_meaning.specs.Breaches.{type_of};
+ghost use Rattle.c_check.specs.Variables.{has_variable};
 
 use crate::named::Named;
-use c_tree::{CFun, CTy, CVar};
+use c_tree::{CTy, CVar};
 use scheme_data::OutOfMemory;
 use std::alloc::Global;
 use std::marker::Model;
@@ -31,7 +30,8 @@ impl Model for Variables {
 }
 
 impl Variables {
-    fn new(alloc: Global) -> Variables
+    /// No variables.
+    pub fn new(alloc: Global) -> Variables
         ensures { result ≡ [] }
     {
         Variables {
@@ -39,48 +39,23 @@ impl Variables {
         }
     }
 
-    /// The parameters and locals of a function; none where two have one name.
-    pub fn of(alloc: Global, f: &CFun) -> Result<Option<Variables>, OutOfMemory>
-        ensures { IfOk result (MakesVariables (variables_of (fun_of f.now))) }
-    {
-        let mut variables = Variables::new(alloc);
-        if !variables.add_all(f.params.as_slice())? {
-            return Ok(None);
-        }
-        if !variables.add_all(f.locals.as_slice())? {
-            return Ok(None);
-        }
-        Ok(Some(variables))
-    }
-
     /// The type of a name.
     pub fn type_of(&self, name: &[u8]) -> Option<CTy>
-        ensures { result ≡ type_named self.now name.now }
+        ensures { result ≡ type_of (variable_named self.now name.now) }
     {
         self.types.get(name).copied()
     }
 
-    fn add(&mut self, var: &CVar) -> Result<bool, OutOfMemory>
+    /// Adds a variable where its name is new, and says whether it is.
+    pub fn add(&mut self, var: &CVar) -> Result<bool, OutOfMemory>
         ensures added { IfOk result (λ added. added ≡ not (has_variable self.old var.now.name)) }
-        ensures ok { IfOk result (λ added. added ≡ true → self.new ≡ self.old ++ var.now ∷ []) }
+        ensures ok { IfOk result (λ added. self.new ≡ (if added then self.old ++ var.now ∷ [] else self.old)) }
     {
         let name = var.name.as_bytes();
         if self.types.contains(name) {
             return Ok(false);
         }
         self.types.add(name, var.ty)?;
-        Ok(true)
-    }
-
-    fn add_all(&mut self, vars: &[CVar]) -> Result<bool, OutOfMemory>
-        ensures added { IfOk result (λ added. added ≡ are_fresh (names_of self.old) (names_of vars.now)) }
-        ensures ok { IfOk result (λ added. added ≡ true → self.new ≡ self.old ++ vars.now) }
-    {
-        for var in vars {
-            if !self.add(var)? {
-                return Ok(false);
-            }
-        }
         Ok(true)
     }
 }

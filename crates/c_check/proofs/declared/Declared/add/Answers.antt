@@ -1,5 +1,5 @@
 use Rattle.std.proofs.Common.{◌∙◌, ◌++◌, ◌∷◌, [], ap}
-use Rattle.c_meaning.specs.Checked.{signature_named}
+use Rattle.c_meaning.specs.Plain.{signature_named}
 use Rattle.c_check.specs.Signatures.{signed}
 use Rattle.c_check.proofs.Entries.{no-shape, signatures-push}
 use Rattle.c_check.proofs.declared.Declared.add.Goals as goal

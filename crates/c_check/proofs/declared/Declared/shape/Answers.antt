@@ -1,6 +1,6 @@
 use Rattle.std.proofs.Common.{◌∙◌, ap}
 use Rattle.std.specs.Option.{option_map}
-use Rattle.c_meaning.specs.Checked.{signature_named}
+use Rattle.c_meaning.specs.Plain.{signature_named}
 use Rattle.c_check.specs.Signatures.{signed}
 use Rattle.c_check.proofs.Entries.{shape-lookup}
 use Rattle.c_check.proofs.declared.Declared.shape.Goals as goal
