@@ -10,13 +10,13 @@ use Rattle.c_tree.specs.declared.tree.CTy.TheVariants.{Obj, Int}
 use Rattle.c_tree.specs.declared.tree.CVar.{CVar}
 use Rattle.c_tree.specs.declared.function.CFun.{CFun}
 use Rattle.c_tree.specs.declared.function.CItem.{CItem}
-use Rattle.c_tree.specs.declared.function.CItem.TheVariants.{Declared, Defined}
-use Rattle.c_tree.specs.Code.{Code, done, assign, call, return, test, loop, defined}
+use Rattle.c_tree.specs.declared.function.CItem.TheVariants.{Extern, Global, Declared, Defined}
+use Rattle.c_tree.specs.Code.{Code, done, assign, call, return, test, loop, ended, goto, catch, protect, Item, external, global, declared, defined}
 use Rattle.c_tree.specs.Functions.{fun_of, item_of, items_of}
-use Rattle.c_tree.specs.Names.{is_main, is_maker, is_initializer}
+use Rattle.c_tree.specs.Names.{is_main, is_maker, is_initializer, is_entry}
 use Rattle.c_meaning.specs.Execution.{position_of, fun_named}
 use Rattle.c_meaning.specs.Program.{functions_of}
-use Rattle.c_meaning.specs.Checked.{Role, Main as Main_role, Maker, Initializer, Function, role_of, Signature, signature_of, signature_named, same_type, same_types, same_signature, code_fits, returns_last, is_looped, is_straight, has_shape, function_fits, may_call, callable, item_fits, agrees, items_fit, defined_names, calls_each_once, is_sound, is_checked, IsChecked}
+use Rattle.c_meaning.specs.Plain.{Role, Main as Main_role, Maker, Initializer, Entry, Function, role_of, Signature, signature_of, signature_named, same_type, same_types, same_signature, code_fits, returns_last, is_looped, takes_nothing, is_straight, has_shape, function_fits, may_call, callable, item_fits, agrees, items_fit, defined_names, calls_each_once, is_sound, is_plain, IsPlain}
 use Rattle.c_machine.specs.Decoded.{variables_of, variable_names, definitions, function_names, has_distinct, HasNames}
 use Rattle.c_machine.proofs.Means.{meant, Shape, Straight, shape_of, statements_of, statements_in, shape_in, Inner, Outer, level_by, level_in, ShapeFits, Callable, Callee, Typed, AllTyped}
 use Rattle.c_machine.proofs.Leading.{straight}
@@ -25,15 +25,35 @@ use Rattle.c_machine.proofs.Sound.{place_in}
 
 -- Definitions -------------------------------------------------------------------------------
 
-pub names_defined : (is : List CItem) → defined_names (items_of is) ≡ function_names (definitions is)
+-- an item that fits is a function
+fits_after : (names : List (List ℕ)) (sigs : List Signature) (i : Item) (is : List Item) → items_fit names sigs (i ∷ is) ≡ true → items_fit names (signature_of i ∷ sigs) is ≡ true
+fits_after names sigs i is h = (and_parts (agrees sigs (signature_of i) && item_fits names (signature_of i ∷ sigs) i) (items_fit names (signature_of i ∷ sigs) is) h).1
+
+fits_first : (names : List (List ℕ)) (sigs : List Signature) (i : Item) (is : List Item) → items_fit names sigs (i ∷ is) ≡ true → (agrees sigs (signature_of i) ≡ true) × (item_fits names (signature_of i ∷ sigs) i ≡ true)
+fits_first names sigs i is h =
+    let s = signature_of i in
+    let p = and_parts (agrees sigs s && item_fits names (s ∷ sigs) i) (items_fit names (s ∷ sigs) is) h in
+    and_parts (agrees sigs s) (item_fits names (s ∷ sigs) i) p.0
+
+no_extern : (names : List (List ℕ)) (sigs : List Signature) (v : CVar) (is : List Item) → items_fit names sigs (external v ∷ is) ≡ true → ⊥
+no_extern names sigs v is h = let q = (fits_first names sigs (external v) is h).1 in absurd (cc)
+
+no_global : (names : List (List ℕ)) (sigs : List Signature) (v : CVar) (is : List Item) → items_fit names sigs (global v ∷ is) ≡ true → ⊥
+no_global names sigs v is h = let q = (fits_first names sigs (global v) is h).1 in absurd (cc)
+
+names_defined : (names : List (List ℕ)) (sigs : List Signature) (is : List CItem) → items_fit names sigs (items_of is) ≡ true → defined_names (items_of is) ≡ function_names (definitions is)
 unfolding definitions
-names_defined [] = refl
-names_defined (Declared t n ps ∷ is) = names_defined is
-names_defined (Defined f ∷ is) = ap (λ l. f.name ∷ l) (names_defined is)
+names_defined names sigs [] h = refl
+names_defined names sigs (Extern v ∷ is) h = absurd (no_extern names sigs v (items_of is) h)
+names_defined names sigs (Global v ∷ is) h = absurd (no_global names sigs v (items_of is) h)
+names_defined names sigs (Declared t n ps ∷ is) h = names_defined names _ is (fits_after names sigs (declared t n ps) (items_of is) h)
+names_defined names sigs (Defined f ∷ is) h = ap (λ l. f.name ∷ l) (names_defined names _ is (fits_after names sigs (defined (fun_of f)) (items_of is) h))
 
 pub functions_meant : (is : List CItem) → functions_of (items_of is) ≡ meant (definitions is)
 unfolding definitions
 functions_meant [] = refl
+functions_meant (Extern v ∷ is) = functions_meant is
+functions_meant (Global v ∷ is) = functions_meant is
 functions_meant (Declared t n ps ∷ is) = functions_meant is
 functions_meant (Defined f ∷ is) = ap (λ l. fun_of f ∷ l) (functions_meant is)
 
@@ -103,9 +123,8 @@ ends_agree : (names : List (List ℕ)) (sigs : List Signature) (is : List CItem)
 ends_agree names sigs [] h a = a
 ends_agree names sigs (i ∷ is) h a =
     let s = signature_of (item_of i) in
-    let p = and_parts (agrees sigs s && item_fits names sigs (item_of i)) (items_fit names (s ∷ sigs) (items_of is)) h in
-    let q = and_parts (agrees sigs s) (item_fits names sigs (item_of i)) p.0 in
-    ends_agree names (s ∷ sigs) is p.1 (and_from (agrees sigs s) (all_agree sigs) q.0 a)
+    let q = fits_first names sigs (item_of i) (items_of is) h in
+    ends_agree names (s ∷ sigs) is (fits_after names sigs (item_of i) (items_of is) h) (and_from (agrees sigs s) (all_agree sigs) q.0 a)
 
 ends_keep : (t : Signature) (sigs : List Signature) (is : List CItem) → Member t sigs → Member t (ends sigs is)
 ends_keep t sigs [] m = m
@@ -114,13 +133,15 @@ ends_keep t sigs (i ∷ is) m = ends_keep t (signature_of (item_of i) ∷ sigs) 
 ends_have : (sigs : List Signature) (is : List CItem) (k : ℕ) (h : CFun) → slice_get (definitions is) k ≡ Some h → Member (signature_in h) (ends sigs is)
 unfolding definitions
 ends_have sigs [] k h e = absurd (cc)
+ends_have sigs (Extern v ∷ is) k h e = ends_have (signature_of (item_of (Extern v)) ∷ sigs) is k h e
+ends_have sigs (Global v ∷ is) k h e = ends_have (signature_of (item_of (Global v)) ∷ sigs) is k h e
 ends_have sigs (Declared t n ps ∷ is) k h e = ends_have (signature_of (item_of (Declared t n ps)) ∷ sigs) is k h e
 ends_have sigs (Defined f ∷ is) zero h e =
     let same : f ≡ h = cc in
     ends_keep (signature_in h) (signature_in f ∷ sigs) is (inl (ap signature_in (sym same)))
 ends_have sigs (Defined f ∷ is) (suc k) h e = ends_have (signature_in f ∷ sigs) is k h e
 
--- a function, checked with the signatures before it
+-- a function, checked with the signatures up to its own
 record CheckedAt (names : List (List ℕ)) (all : List Signature) (f : CFun) : Type 0 where
   sigs : List Signature
   fits : function_fits (callable (role_of f.name) names sigs) (fun_of f) ≡ true
@@ -129,38 +150,31 @@ record CheckedAt (names : List (List ℕ)) (all : List Signature) (f : CFun) : T
 checked_at : (names : List (List ℕ)) (sigs : List Signature) (is : List CItem) (k : ℕ) (f : CFun) → items_fit names sigs (items_of is) ≡ true → slice_get (definitions is) k ≡ Some f → CheckedAt names (ends sigs is) f
 unfolding definitions
 checked_at names sigs [] k f h e = absurd (cc)
-checked_at names sigs (Declared t n ps ∷ is) k f h e =
-    let s = signature_of (item_of (Declared t n ps)) in
-    let p = and_parts (agrees sigs s && item_fits names sigs (item_of (Declared t n ps))) (items_fit names (s ∷ sigs) (items_of is)) h in
-    checked_at names (s ∷ sigs) is k f p.1 e
+checked_at names sigs (Extern v ∷ is) k f h e = absurd (no_extern names sigs v (items_of is) h)
+checked_at names sigs (Global v ∷ is) k f h e = absurd (no_global names sigs v (items_of is) h)
+checked_at names sigs (Declared t n ps ∷ is) k f h e = checked_at names (signature_of (item_of (Declared t n ps)) ∷ sigs) is k f (fits_after names sigs (declared t n ps) (items_of is) h) e
 checked_at names sigs (Defined g ∷ is) zero f h e =
     let s = signature_in g in
-    let p = and_parts (agrees sigs s && item_fits names sigs (item_of (Defined g))) (items_fit names (s ∷ sigs) (items_of is)) h in
-    let q = and_parts (agrees sigs s) (item_fits names sigs (item_of (Defined g))) p.0 in
+    let q = fits_first names sigs (item_of (Defined g)) (items_of is) h in
     let same : g ≡ f = cc in
     record {
-      sigs = sigs;
-      fits = subst (λ (x : CFun). function_fits (callable (role_of x.name) names sigs) (fun_of x) ≡ true) same q.1;
-      among = λ t m. ends_keep t (s ∷ sigs) is (inr m);
+      sigs = s ∷ sigs;
+      fits = subst (λ (x : CFun). function_fits (callable (role_of x.name) names (s ∷ sigs)) (fun_of x) ≡ true) same q.1;
+      among = λ t m. ends_keep t (s ∷ sigs) is m;
     }
-checked_at names sigs (Defined g ∷ is) (suc k) f h e =
-    let s = signature_in g in
-    let p = and_parts (agrees sigs s && item_fits names sigs (item_of (Defined g))) (items_fit names (s ∷ sigs) (items_of is)) h in
-    checked_at names (s ∷ sigs) is k f p.1 e
+checked_at names sigs (Defined g ∷ is) (suc k) f h e = checked_at names (signature_in g ∷ sigs) is k f (fits_after names sigs (item_of (Defined g)) (items_of is) h) e
 
 all_distinct : (names : List (List ℕ)) (sigs : List Signature) (is : List CItem) → items_fit names sigs (items_of is) ≡ true → list_all has_distinct (definitions is) ≡ true
 unfolding definitions
 all_distinct names sigs [] h = refl
-all_distinct names sigs (Declared t n ps ∷ is) h =
-    let s = signature_of (item_of (Declared t n ps)) in
-    let p = and_parts (agrees sigs s && item_fits names sigs (item_of (Declared t n ps))) (items_fit names (s ∷ sigs) (items_of is)) h in
-    all_distinct names (s ∷ sigs) is p.1
+all_distinct names sigs (Extern v ∷ is) h = absurd (no_extern names sigs v (items_of is) h)
+all_distinct names sigs (Global v ∷ is) h = absurd (no_global names sigs v (items_of is) h)
+all_distinct names sigs (Declared t n ps ∷ is) h = all_distinct names _ is (fits_after names sigs (declared t n ps) (items_of is) h)
 all_distinct names sigs (Defined g ∷ is) h =
     let s = signature_in g in
-    let p = and_parts (agrees sigs s && item_fits names sigs (item_of (Defined g))) (items_fit names (s ∷ sigs) (items_of is)) h in
-    let q = and_parts (agrees sigs s) (item_fits names sigs (item_of (Defined g))) p.0 in
-    let r = and_parts (are_distinct (variable_names (variables_of g))) (has_shape (callable (role_of g.name) names sigs) (role_of g.name) (fun_of g)) q.1 in
-    and_from (has_distinct g) (list_all has_distinct (definitions is)) r.0 (all_distinct names (s ∷ sigs) is p.1)
+    let q = fits_first names sigs (item_of (Defined g)) (items_of is) h in
+    let r = and_parts (are_distinct (variable_names (variables_of g))) (has_shape (callable (role_of g.name) names (s ∷ sigs)) (role_of g.name) (fun_of g)) q.1 in
+    and_from (has_distinct g) (list_all has_distinct (definitions is)) r.0 (all_distinct names (s ∷ sigs) is (fits_after names sigs (item_of (Defined g)) (items_of is) h))
 
 -- Functions by name -------------------------------------------------------------------------
 
@@ -252,6 +266,14 @@ loop_of sigs vars t (loop l body (call c rest)) h = absurd (cc)
 loop_of sigs vars t (loop l body (return e rest)) h = absurd (cc)
 loop_of sigs vars t (loop l body (test e a b rest)) h = absurd (cc)
 loop_of sigs vars t (loop l body (loop m c rest)) h = absurd (cc)
+loop_of sigs vars t (loop l body (ended c m rest)) h = absurd (cc)
+loop_of sigs vars t (loop l body (goto m rest)) h = absurd (cc)
+loop_of sigs vars t (loop l body (catch x y c rest)) h = absurd (cc)
+loop_of sigs vars t (loop l body (protect a b rest)) h = absurd (cc)
+loop_of sigs vars t (ended c m rest) h = absurd (cc)
+loop_of sigs vars t (goto m rest) h = absurd (cc)
+loop_of sigs vars t (catch x y c rest) h = absurd (cc)
+loop_of sigs vars t (protect a b rest) h = absurd (cc)
 
 loop_fits : (sigs : List Signature) (vars : List CVar) (t : CTy) (c : Code) → is_looped sigs vars t c ≡ true → code_fits sigs vars t (statements_of (shape_of c)) ≡ true
 loop_fits sigs vars t c h =
@@ -275,7 +297,7 @@ no_params (p ∷ ps) h = absurd (cc)
 
 straight_fits : (sigs : List Signature) (t : CTy) (f : CFun) → is_straight sigs t (fun_of f) ≡ true → IsStraight sigs t f
 straight_fits sigs t f h =
-    let p = and_parts (same_type f.result t && same_types (map (λ v. v.ty) f.params) []) (code_fits sigs f.locals t (statements_in f) && returns_last (statements_in f)) h in
+    let p = and_parts (takes_nothing t f.result (map (λ v. v.ty) f.params)) (code_fits sigs f.locals t (statements_in f) && returns_last (statements_in f)) h in
     let q = and_parts (same_type f.result t) (same_types (map (λ v. v.ty) f.params) []) p.0 in
     let r = and_parts (code_fits sigs f.locals t (statements_in f)) (returns_last (statements_in f)) p.1 in
     let params = no_params f.params q.1 in
@@ -299,12 +321,14 @@ body_fits : (sigs : List Signature) (f : CFun) (role : Role) → has_shape sigs 
 body_fits sigs f Main_role h = straight_body sigs Int f h
 body_fits sigs f Maker h = straight_body sigs Obj f h
 body_fits sigs f Initializer h = straight_body sigs Obj f h
+body_fits sigs f Entry h = absurd (cc)
 body_fits sigs f Function h = loop_fits sigs (variables_of f) f.result (statements_in f) h
 
 shape_fits : (sigs : List Signature) (f : CFun) (role : Role) → has_shape sigs role (fun_of f) ≡ true → ShapeFits (level_by role) (shape_in f)
 shape_fits sigs f Main_role h = subst (λ (s : Shape). ShapeFits Outer s) (sym (straight_fits sigs Int f h).shape) tt
 shape_fits sigs f Maker h = tt
 shape_fits sigs f Initializer h = tt
+shape_fits sigs f Entry h = tt
 shape_fits sigs f Function h = tt
 
 -- nothing calls `main`
@@ -312,7 +336,9 @@ called_inner : (caller role : Role) → may_call caller role ≡ true → level_
 called_inner Main_role Main_role h = absurd (cc)
 called_inner Maker Main_role h = absurd (cc)
 called_inner Initializer Main_role h = absurd (cc)
+called_inner Entry Main_role h = absurd (cc)
 called_inner Function Main_role h = absurd (cc)
+called_inner caller Entry h = refl
 called_inner caller Maker h = refl
 called_inner caller Initializer h = refl
 called_inner caller Function h = refl
@@ -324,6 +350,9 @@ called_shape Maker role sigs f h k = absurd (cc)
 called_shape Initializer Main_role sigs f h k = absurd (cc)
 called_shape Initializer Maker sigs f h k = absurd (cc)
 called_shape Initializer Initializer sigs f h k = absurd (cc)
+called_shape Initializer Entry sigs f h k = absurd (cc)
+called_shape Entry role sigs f h k = absurd (cc)
+called_shape Function Entry sigs f h k = absurd (cc)
 called_shape Initializer Function sigs f h k = loop_called sigs (variables_of f) f.result (statements_in f) k
 called_shape Function Main_role sigs f h k = absurd (cc)
 called_shape Function Maker sigs f h k = absurd (cc)
@@ -337,21 +366,21 @@ record Parts (is : List CItem) : Type 0 where
   fit : items_fit (function_names (definitions is)) [] (items_of is) ≡ true
   main : list_any is_main (function_names (definitions is)) ≡ true
 
-parts : (is : List CItem) → IsChecked (items_of is) → Parts is
-unfolding is_checked is_sound
+parts : (is : List CItem) → IsPlain (items_of is) → Parts is
+unfolding is_plain is_sound
 parts is h =
     let names = defined_names (items_of is) in
-    let e = names_defined is in
     let p = and_parts (are_distinct names && items_fit names [] (items_of is)) (list_any is_main names && calls_each_once (items_of is)) h in
     let m = and_parts (list_any is_main names) (calls_each_once (items_of is)) p.1 in
     let q = and_parts (are_distinct names) (items_fit names [] (items_of is)) p.0 in
+    let e = names_defined names [] is q.1 in
     record {
       distinct = subst (λ (n : List (List ℕ)). are_distinct n ≡ true) e q.0;
       fit = subst (λ (n : List (List ℕ)). items_fit n [] (items_of is) ≡ true) e q.1;
       main = subst (λ (n : List (List ℕ)). list_any is_main n ≡ true) e m.0;
     }
 
-pub has_names : (is : List CItem) → IsChecked (items_of is) → HasNames is
+pub has_names : (is : List CItem) → IsPlain (items_of is) → HasNames is
 has_names is h =
     let p = parts is h in
     record { functions = p.distinct; variables = all_distinct (function_names (definitions is)) [] is p.fit }
@@ -413,13 +442,13 @@ pub record Main (is : List CItem) : Type 0 where
   pub params : fun.params ≡ []
   pub result : fun.result ≡ Int
 
-pub all_typed : (is : List CItem) → IsChecked (items_of is) → AllTyped (definitions is) (place_in (definitions is))
+pub all_typed : (is : List CItem) → IsPlain (items_of is) → AllTyped (definitions is) (place_in (definitions is))
 all_typed is h = typed_all is (parts is h)
 
 main_role : (name : List ℕ) → is_main name ≡ true → role_of name ≡ Main_role
-main_role name e = ap (λ (b : Bool). if b then Main_role else (if is_maker name then Maker else (if is_initializer name then Initializer else Function))) e
+main_role name e = ap (λ (b : Bool). if b then Main_role else (if is_maker name then Maker else (if is_initializer name then Initializer else (if is_entry name then Entry else Function)))) e
 
-pub main_there : (is : List CItem) → IsChecked (items_of is) → Main is
+pub main_there : (is : List CItem) → IsPlain (items_of is) → Main is
 main_there is h =
     let p = parts is h in
     let fs = definitions is in

@@ -11,7 +11,7 @@ use Rattle.c_tree.specs.Functions.{fun_of}
 use Rattle.c_meaning.specs.State.{Cell, Frame, blank, frame_of}
 use Rattle.c_meaning.specs.Execution.{arguments, cells, entry}
 use Rattle.c_tree.specs.declared.op.Wants.TheVariants.{AType}
-use Rattle.c_meaning.specs.Checked.{arguments_fit, atom_fits}
+use Rattle.c_meaning.specs.Plain.{arguments_fit, atom_fits}
 use Rattle.c_machine.specs.Steps.{look, ReadsAll}
 use Rattle.c_machine.specs.Decoded.{operand_in, variables_of, variable_names}
 use Rattle.c_machine.proofs.Typing.{Slot, Holds, atom_reading}
@@ -67,6 +67,7 @@ module _ (vars : List CVar) (f : Frame) (below env : List ℕ) (hs : Holds vars 
   args_filled [] (a ∷ args) h = absurd (cc)
   args_filled (v ∷ params) [] h = absurd (cc)
   args_filled (v ∷ params) (arg.Str t ∷ args) h = absurd (cc)
+  args_filled (v ∷ params) (arg.Entry n ∷ args) h = absurd (cc)
   args_filled (v ∷ params) (arg.Atom a ∷ args) h =
       let p = and_parts (atom_fits vars a v.ty) (arguments_fit vars (map AType (types_of params)) args) h in
       let r = atom_reading vars f below env v.ty a p.0 hs in
@@ -77,6 +78,7 @@ module _ (vars : List CVar) (f : Frame) (below env : List ℕ) (hs : Holds vars 
   args_read [] (a ∷ args) h = absurd (cc)
   args_read (v ∷ params) [] h = absurd (cc)
   args_read (v ∷ params) (arg.Str t ∷ args) h = absurd (cc)
+  args_read (v ∷ params) (arg.Entry n ∷ args) h = absurd (cc)
   args_read (v ∷ params) (arg.Atom a ∷ args) h =
       let p = and_parts (atom_fits vars a v.ty) (arguments_fit vars (map AType (types_of params)) args) h in
       let r = atom_reading vars f below env v.ty a p.0 hs in

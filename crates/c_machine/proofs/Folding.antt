@@ -3,7 +3,7 @@ use Rattle.std.proofs.Common.{◌≡◌, ℕ, suc, ◌+◌, ◌-◌, List, [], �
 use Rattle.c_tree.specs.declared.tree.CStmt.{CStmt}
 use Rattle.c_tree.specs.declared.pieces.Piece.{Piece}
 use Rattle.c_tree.specs.declared.pieces.Piece.TheVariants as piece
-use Rattle.c_tree.specs.Code.{Code, done, assign, call, return, test, loop}
+use Rattle.c_tree.specs.Code.{Code, done, assign, call, return, test, loop, ended, goto, catch, protect}
 use Rattle.c_tree.specs.Layout.{size, flat}
 use Rattle.c_tree.specs.Pieces.{pieces}
 use Rattle.c_meaning.specs.Execution.{Names, position_of}
@@ -32,6 +32,24 @@ length-flat (loop l body rest) at others =
     let m = suc at + size body in
     let i = length-flat body (suc at) (flat rest m others) in
     let h = length-flat rest m others in
+    omega arith
+length-flat (ended body l rest) at others =
+    let m = suc at + size body in
+    let i = length-flat body (suc at) (flat rest m others) in
+    let h = length-flat rest m others in
+    omega arith
+length-flat (goto l rest) at others = let h = length-flat rest (suc at) others in omega arith
+length-flat (catch k r body rest) at others =
+    let m = suc at + size body in
+    let i = length-flat body (suc at) (flat rest m others) in
+    let h = length-flat rest m others in
+    omega arith
+length-flat (protect a b rest) at others =
+    let m = suc at + size a in
+    let k = m + size b in
+    let i = length-flat a (suc at) (flat b m (flat rest k others)) in
+    let j = length-flat b m (flat rest k others) in
+    let h = length-flat rest k others in
     omega arith
 
 abbrev state : ℕ → ℕ → List Open → List Line → Decoding
@@ -81,6 +99,41 @@ module _ (names funs : Names) (d : Decoding) where
       let q = code_decoded body (piece.End ∷ pieces rest others) (suc at) after k (closed ∷ blocks) behind refl (ap (decoded names funs piece.End) r) in
       ap (decoded names funs (piece.Loop l)) q
       ∙ put_state instr.Turn at (first_of body (suc at) after) blocks (lines names funs body (suc at) after behind)
+  code_decoded (ended body l rest) others at on end blocks ls is h =
+      let k = suc at + size body in
+      let after = first_of rest k on in
+      let behind = lines names funs rest k on ls in
+      let closed : Open = record { after = after; second = after } in
+      let r = code_decoded rest others k on end blocks ls (omega (arith, is)) h in
+      let q = code_decoded body (piece.Ended l ∷ pieces rest others) (suc at) after k (closed ∷ blocks) behind refl (ap (decoded names funs (piece.Ended l)) r) in
+      ap (decoded names funs piece.Begin) q
+      ∙ put_state instr.Stop at (first_of body (suc at) after) blocks (lines names funs body (suc at) after behind)
+  code_decoded (goto l rest) others at on end blocks ls is h =
+      ap (decoded names funs (piece.Goto l)) (code_decoded rest others (suc at) on end blocks ls (omega (arith, is)) h)
+      ∙ put_state instr.Stop at (first_of rest (suc at) on) blocks (lines names funs rest (suc at) on ls)
+  code_decoded (catch x y body rest) others at on end blocks ls is h =
+      let k = suc at + size body in
+      let after = first_of rest k on in
+      let behind = lines names funs rest k on ls in
+      let closed : Open = record { after = after; second = after } in
+      let r = code_decoded rest others k on end blocks ls (omega (arith, is)) h in
+      let q = code_decoded body (piece.End ∷ pieces rest others) (suc at) after k (closed ∷ blocks) behind refl (ap (decoded names funs piece.End) r) in
+      ap (decoded names funs (piece.Catch x y)) q
+      ∙ put_state instr.Stop at (first_of body (suc at) after) blocks (lines names funs body (suc at) after behind)
+  code_decoded (protect a b rest) others at on end blocks ls is h =
+      let m = suc at + size a in
+      let k = m + size b in
+      let after = first_of rest k on in
+      let second = first_of b m after in
+      let behind = lines names funs rest k on ls in
+      let both = lines names funs b m after behind in
+      let closed : Open = record { after = after; second = after } in
+      let half : Open = record { after = after; second = second } in
+      let r = code_decoded rest others k on end blocks ls (omega (arith, is)) h in
+      let q = code_decoded b (piece.End ∷ pieces rest others) m after k (closed ∷ blocks) behind refl (ap (decoded names funs piece.End) r) in
+      let p = code_decoded a (piece.Cleanup ∷ pieces b (piece.End ∷ pieces rest others)) (suc at) after m (half ∷ blocks) both refl (ap (decoded names funs piece.Cleanup) q) in
+      ap (decoded names funs piece.Protect) p
+      ∙ put_state instr.Stop at (first_of a (suc at) after) blocks (lines names funs a (suc at) after both)
 
 -- a function's pieces, decoded from the end of its list of statements
 pub pieces_decoded : (names funs : Names) (c : Code) (stmts : List CStmt) (ps : List Piece) (end : ℕ) (i : Instr) (d : Decoding) → stmts ≡ flat c 0 [] → ps ≡ pieces c [] → end ≡ suc (length stmts) → i ≡ last_of c → d ≡ decoded_all names funs ps (started end i) → line instr.Give 1 ∷ d.lines ≡ code_of names funs c

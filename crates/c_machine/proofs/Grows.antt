@@ -13,17 +13,17 @@ use Rattle.c_tree.specs.declared.tree.Callee.{Callee}
 use Rattle.c_tree.specs.declared.tree.Callee.TheVariants as callee
 use Rattle.c_tree.specs.declared.tree.CExpr.{CExpr}
 use Rattle.c_tree.specs.declared.tree.CExpr.TheVariants as expr
-use Rattle.c_tree.specs.Code.{Code, done, assign, call, return, test, loop, Fun}
+use Rattle.c_tree.specs.Code.{Code, done, assign, call, return, test, loop, ended, goto, catch, protect, Fun}
 use Rattle.c_meaning.specs.Word.{Word, Fixnum, False, True, Nil, Unspec, Eof, printed}
 use Rattle.c_meaning.specs.State.{Cell, AWord, ANumber, State, Frame, put, Answer, Has, Leaves, Stops, Ends, Faults, Flow, Next, Goes, Returns, Escapes, Raises, Spends, Fails, with, chosen, after, answer, take_from}
 use Rattle.c_tree.specs.Operations.{wants_of}
-use Rattle.c_meaning.specs.Operations.{Argument, are_wanted, word_at, number_at, text_at, fixnum_in, stops, in_range, does, done as op_done, operate}
+use Rattle.c_meaning.specs.Operations.{Argument, are_wanted, word_at, number_at, text_at, fixnum_in, stops, in_range, does, does_built, done as op_done, operate}
 use Rattle.base_io.specs.declared.end.FaultKind.TheVariants.{Tag}
 use Rattle.prim_table.specs.Errors.{number_of}
 use Rattle.prim_table.specs.declared.errors.ErrCode.TheVariants.{Range}
-use Rattle.built_table.specs.Table.{name_of}
+use Rattle.built_table.specs.Table.{built, name_of}
 use Rattle.built_table.specs.declared.primitives.Primitive.{Primitive}
-use Rattle.c_meaning.specs.Execution.{Names, Lower, position_of, arguments, cells, again, iterate, looped, entry, names_of, enter, enter_any, invoke_by, eval_by, exec_by, exec, run, fun_named}
+use Rattle.c_meaning.specs.Execution.{Names, Lower, position_of, arguments, cells, again, arrived, iterate, looped, entry, names_of, enter, enter_any, invoke_by, eval_by, exec_by, exec, run, fun_named}
 use Rattle.c_meaning.specs.Program.{shown}
 use Rattle.c_machine.specs.declared.stepping.Frame.{Frame as Waiter}
 use Rattle.c_machine.specs.declared.program.Target.{Target}
@@ -86,6 +86,15 @@ either_grows : (o : List ℕ) (b : Bool) (x y : Flow) → Begins o (out x) → B
 either_grows o true x y h k = h
 either_grows o false x y h k = k
 
+arrived_grows : (o l : List ℕ) (x : Flow) → Begins o (out x) → Begins o (out (arrived l x))
+arrived_grows o l (Next f s) h = h
+arrived_grows o l (Goes m f s) h = either_grows o (is_same m l) (Next f s) (Goes m f s) h h
+arrived_grows o l (Returns c s) h = h
+arrived_grows o l (Escapes x w f s) h = h
+arrived_grows o l (Raises c t s) h = h
+arrived_grows o l (Spends s) h = h
+arrived_grows o l (Fails k s) h = h
+
 chosen_grows : (c : Cell) (s : State) (x y : Flow) → Begins s.output (out x) → Begins s.output (out y) → Begins s.output (out (chosen c s x y))
 chosen_grows (ANumber (pos n)) s x y h k = either_grows s.output (n == 0) y x k h
 chosen_grows (ANumber (negsuc n)) s x y h k = h
@@ -118,6 +127,10 @@ looped_grows lower g names (call c rest) f s = begins_self s.output
 looped_grows lower g names (return e rest) f s = begins_self s.output
 looped_grows lower g names (test e a b rest) f s = begins_self s.output
 looped_grows lower g names (loop l body rest) f s = iterate_grows lower g names l body f s
+looped_grows lower g names (ended body l rest) f s = begins_self s.output
+looped_grows lower g names (goto l rest) f s = begins_self s.output
+looped_grows lower g names (catch k r body rest) f s = begins_self s.output
+looped_grows lower g names (protect a b rest) f s = begins_self s.output
 
 enter_grows : (lower : Lower) → LowerGrows lower → (o : Option Fun) (cs : List Cell) (s : State) → Begins s.output (out_of (enter lower o cs s))
 enter_grows lower g None cs s = begins_self s.output
@@ -149,6 +162,10 @@ does_grows Less args s = begins_self s.output
 does_grows Display args s = (printed (word_at args 0), refl)
 does_grows Newline args s = (10 ∷ [], refl)
 
+built_grows : (o : Option Primitive) (args : List Argument) (s : State) → Begins s.output (out_of (does_built o args s))
+built_grows None args s = begins_self s.output
+built_grows (Some p) args s = does_grows p args s
+
 done_grows : (op : Op) (args : List Argument) (s : State) → Begins s.output (out_of (op_done op args s))
 done_grows BoxLong args s = begins_self s.output
 done_grows BoxBool args s = begins_self s.output
@@ -157,7 +174,8 @@ done_grows Truth args s = begins_self s.output
 done_grows Raise args s = stops_grows (number_at args 0) (text_at args 1) s
 done_grows Args args s = begins_self s.output
 done_grows Status args s = begins_self s.output
-done_grows (Prim_op p) args s = does_grows p args s
+done_grows (Prim_op p) args s = built_grows (built p) args s
+done_grows _ args s = begins_self s.output
 
 operate_grows : (op : Op) (args : List Argument) (s : State) → Begins s.output (out_of (operate op args s))
 operate_grows op args s = by (are_wanted (wants_of op) args)
@@ -192,6 +210,11 @@ module _ (p : List Fun) (called : Option Fun → List Cell → State → Answer)
       )
   exec_grows names (loop l body rest) f s =
       after_grows s.output (iterate lower names l body f s) (λ f1 s1. exec_by p called lower names rest f1 s1) (iterate_grows lower g names l body f s) (λ f1 s1. exec_grows names rest f1 s1)
+  exec_grows names (ended body l rest) f s =
+      after_grows s.output (arrived l (exec_by p called lower names body f s)) (λ f1 s1. exec_by p called lower names rest f1 s1) (arrived_grows s.output l (exec_by p called lower names body f s) (exec_grows names body f s)) (λ f1 s1. exec_grows names rest f1 s1)
+  exec_grows names (goto l rest) f s = begins_self s.output
+  exec_grows names (catch k r body rest) f s = begins_self s.output
+  exec_grows names (protect a b rest) f s = begins_self s.output
 
 pub run_grows : (p : List Fun) (b : ℕ) → LowerGrows (run p b)
 run_grows p zero names c f s = begins_self s.output

@@ -2,10 +2,10 @@
 use Rattle.std.proofs.Common.{◌≡◌, ℕ, zero, suc, ◌+◌, ◌≤◌, true, List, [], ◌∷◌, Some, slice_get, drop, refl, sym, ap, subst, ◌∙◌, arith}
 use Rattle.c_tree.specs.declared.tree.CTy.{CTy}
 use Rattle.c_tree.specs.declared.tree.CVar.{CVar}
-use Rattle.c_tree.specs.Code.{Code, done, assign, call, return, test, loop}
+use Rattle.c_tree.specs.Code.{Code, done, assign, call, return, test, loop, ended, goto, catch, protect}
 use Rattle.c_tree.specs.Layout.{size}
 use Rattle.c_meaning.specs.Execution.{Names, position_of}
-use Rattle.c_meaning.specs.Checked.{Signature, code_fits}
+use Rattle.c_meaning.specs.Plain.{Signature, code_fits}
 use Rattle.c_machine.specs.declared.program.Target.TheVariants as target
 use Rattle.c_machine.specs.declared.program.Instr.{Instr}
 use Rattle.c_machine.specs.declared.program.Instr.TheVariants as instr
@@ -35,6 +35,10 @@ first_from (call c rest) at on le = omega arith
 first_from (return e rest) at on le = omega arith
 first_from (test e a b rest) at on le = omega arith
 first_from (loop l body rest) at on le = omega arith
+first_from (ended body l rest) at on le = omega arith
+first_from (goto l rest) at on le = omega arith
+first_from (catch k r body rest) at on le = omega arith
+first_from (protect a b rest) at on le = omega arith
 
 -- code that fills what lies between two places begins at the first
 first_between : (c : Code) (at on : ℕ) → on ≡ at + size c → first_of c at on ≡ at
@@ -44,6 +48,10 @@ first_between (call c rest) at on h = refl
 first_between (return e rest) at on h = refl
 first_between (test e a b rest) at on h = refl
 first_between (loop l body rest) at on h = refl
+first_between (ended body l rest) at on h = refl
+first_between (goto l rest) at on h = refl
+first_between (catch k r body rest) at on h = refl
+first_between (protect a b rest) at on h = refl
 
 -- Code --------------------------------------------------------------------------------------
 
@@ -114,6 +122,40 @@ module _ (names funs : Names) (code : List Line) where
       let q = lines_lead body (suc at) after behind f.rest (omega (arith, far)) in
       let r = lines_lead rest k on others q.rest (omega arith) in
       record { leads = tt; rest = ended_at (k + size rest) (at + size (loop l body rest)) others r.rest (omega arith) }
+  lines_lead (ended body l rest) at on others h le =
+      let k = suc at + size body in
+      let after = first_of rest k on in
+      let behind = lines names funs rest k on others in
+      let f = front code at (line instr.Stop (first_of body (suc at) after)) (lines names funs body (suc at) after behind) h in
+      let far = first_from rest k on (omega arith) in
+      let q = lines_lead body (suc at) after behind f.rest (omega (arith, far)) in
+      let r = lines_lead rest k on others q.rest (omega arith) in
+      record { leads = tt; rest = ended_at (k + size rest) (at + size (ended body l rest)) others r.rest (omega arith) }
+  lines_lead (goto l rest) at on others h le =
+      let f = front code at (line instr.Stop (first_of rest (suc at) on)) (lines names funs rest (suc at) on others) h in
+      let r = lines_lead rest (suc at) on others f.rest (omega arith) in
+      record { leads = tt; rest = ended_at (suc at + size rest) (at + size (goto l rest)) others r.rest (omega arith) }
+  lines_lead (catch x y body rest) at on others h le =
+      let k = suc at + size body in
+      let after = first_of rest k on in
+      let behind = lines names funs rest k on others in
+      let f = front code at (line instr.Stop (first_of body (suc at) after)) (lines names funs body (suc at) after behind) h in
+      let far = first_from rest k on (omega arith) in
+      let q = lines_lead body (suc at) after behind f.rest (omega (arith, far)) in
+      let r = lines_lead rest k on others q.rest (omega arith) in
+      record { leads = tt; rest = ended_at (k + size rest) (at + size (catch x y body rest)) others r.rest (omega arith) }
+  lines_lead (protect a b rest) at on others h le =
+      let m = suc at + size a in
+      let k = m + size b in
+      let after = first_of rest k on in
+      let behind = lines names funs rest k on others in
+      let second = lines names funs b m after behind in
+      let f = front code at (line instr.Stop (first_of a (suc at) after)) (lines names funs a (suc at) after second) h in
+      let far = first_from rest k on (omega arith) in
+      let p = lines_lead a (suc at) after second f.rest (omega (arith, far)) in
+      let q = lines_lead b m after behind p.rest (omega (arith, far)) in
+      let r = lines_lead rest k on others q.rest (omega arith) in
+      record { leads = tt; rest = ended_at (k + size rest) (at + size (protect a b rest)) others r.rest (omega arith) }
 
   -- the last instruction stands behind the code
   last_leads : (c : Code) (at on next : ℕ) (last : Instr) → drop at code ≡ lines names funs c at on (line last next ∷ []) → on ≡ at + size c → LeadsAll names funs code last (c ∷ []) at
@@ -140,6 +182,14 @@ statements_back (loop m c (call d rest)) l body h = absurd (cc)
 statements_back (loop m c (return e rest)) l body h = absurd (cc)
 statements_back (loop m c (test e a b rest)) l body h = absurd (cc)
 statements_back (loop m c (loop n d rest)) l body h = absurd (cc)
+statements_back (loop m c (ended d n rest)) l body h = absurd (cc)
+statements_back (loop m c (goto n rest)) l body h = absurd (cc)
+statements_back (loop m c (catch x y d rest)) l body h = absurd (cc)
+statements_back (loop m c (protect d e rest)) l body h = absurd (cc)
+statements_back (ended d n rest) l body h = absurd (cc)
+statements_back (goto n rest) l body h = absurd (cc)
+statements_back (catch x y d rest) l body h = absurd (cc)
+statements_back (protect d e rest) l body h = absurd (cc)
 
 pub straight_back : (c d : Code) → shape_of c ≡ Straight d → d ≡ c
 straight_back done d h = cc
@@ -153,6 +203,14 @@ straight_back (loop m c (call e rest)) d h = cc
 straight_back (loop m c (return e rest)) d h = cc
 straight_back (loop m c (test e a b rest)) d h = cc
 straight_back (loop m c (loop n e rest)) d h = cc
+straight_back (loop m c (ended e n rest)) d h = cc
+straight_back (loop m c (goto n rest)) d h = cc
+straight_back (loop m c (catch x y e rest)) d h = cc
+straight_back (loop m c (protect a b rest)) d h = cc
+straight_back (ended e n rest) d h = cc
+straight_back (goto n rest) d h = cc
+straight_back (catch x y e rest) d h = cc
+straight_back (protect a b rest) d h = cc
 
 -- checked statements are no loop
 pub straight : (sigs : List Signature) (vars : List CVar) (t : CTy) (c : Code) → code_fits sigs vars t c ≡ true → shape_of c ≡ Straight c
@@ -162,6 +220,10 @@ straight sigs vars t (call c rest) h = refl
 straight sigs vars t (return e rest) h = refl
 straight sigs vars t (test e a b rest) h = refl
 straight sigs vars t (loop l body rest) h = absurd (cc)
+straight sigs vars t (ended body l rest) h = absurd (cc)
+straight sigs vars t (goto l rest) h = absurd (cc)
+straight sigs vars t (catch k r body rest) h = absurd (cc)
+straight sigs vars t (protect a b rest) h = absurd (cc)
 
 stops : (sigs : List Signature) (vars : List CVar) (t : CTy) (c : Code) → code_fits sigs vars t c ≡ true → last_of c ≡ instr.Stop
 stops sigs vars t done h = refl
@@ -170,6 +232,10 @@ stops sigs vars t (call c rest) h = refl
 stops sigs vars t (return e rest) h = refl
 stops sigs vars t (test e a b rest) h = refl
 stops sigs vars t (loop l body rest) h = absurd (cc)
+stops sigs vars t (ended body l rest) h = absurd (cc)
+stops sigs vars t (goto l rest) h = absurd (cc)
+stops sigs vars t (catch k r body rest) h = absurd (cc)
+stops sigs vars t (protect a b rest) h = absurd (cc)
 
 -- what stands at the places where a function and a block begin
 abbrev LeadsIn : Names → Names → Code → List Code → ℕ → Type 0

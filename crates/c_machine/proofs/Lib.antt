@@ -5,6 +5,7 @@ pub mod Distinct
 pub mod Filled
 pub mod Flows
 pub mod Folding
+pub mod Forms
 pub mod Grows
 pub mod Items
 pub mod Leading

@@ -8,12 +8,12 @@ use Rattle.c_tree.specs.declared.tree.CTy.TheVariants.{Int}
 use Rattle.c_tree.specs.declared.tree.CExpr.{CExpr}
 use Rattle.c_tree.specs.declared.tree.CVar.{CVar}
 use Rattle.c_tree.specs.declared.function.CFun.{CFun}
-use Rattle.c_tree.specs.Code.{Code, done, assign, call, return, test, loop, Fun}
+use Rattle.c_tree.specs.Code.{Code, done, assign, call, return, test, loop, ended, goto, catch, protect, Fun}
 use Rattle.c_tree.specs.Functions.{fun_of}
 use Rattle.c_meaning.specs.State.{Cell, State, Frame, put, Answer, Flow, Next, Returns, with, after, chosen, answer}
 use Rattle.c_meaning.specs.Execution.{Names, position_of, again, enter, enter_any, eval_by, exec_by, run, fun_named}
 use Rattle.c_meaning.specs.Program.{shown}
-use Rattle.c_meaning.specs.Checked.{Role, Main, Maker, Initializer, Function as Module_function, role_of, Signature, signature_named, code_fits}
+use Rattle.c_meaning.specs.Plain.{Role, Main, Maker, Initializer, Entry, Function as Module_function, role_of, Signature, signature_named, code_fits}
 use Rattle.c_machine.specs.declared.program.Target.{Target}
 use Rattle.c_machine.specs.declared.program.Target.TheVariants as target
 use Rattle.c_machine.specs.declared.program.Instr.{Instr}
@@ -74,6 +74,7 @@ abbrev pub level_by : Role → Level
 level_by Main = Outer
 level_by Maker = Inner
 level_by Initializer = Inner
+level_by Entry = Inner
 level_by Module_function = Inner
 
 abbrev pub level_in : CFun → Level
@@ -129,7 +130,7 @@ pub record Stepping (code : List Line) (at : ℕ) (to : Target) (i : Instr) (nex
   pub ahead : at < nearest to next
 
 module _ (names funs : Names) (code : List Line) where
-  -- from a place on, these statements stand there, after which the function goes on at another. A loop is no statement of a checked block
+  -- from a place on, these statements stand there, after which the function goes on at another. No other statement stands in a block of a plain program
   unfoldable pub Leads : Code → ℕ → ℕ → Type 0
   Leads done at on = at ≡ on
   Leads (assign x e rest) at on =
@@ -140,6 +141,10 @@ module _ (names funs : Names) (code : List Line) where
       (next : ℕ) × (other : ℕ) × (after : ℕ) × Stepping code at (target.Test other) (expr_instr names funs (target.Test other) e) next
       × Leads a next after × Leads b other after × Leads rest after on
   Leads (loop l body rest) at on = Unit {0}
+  Leads (ended body l rest) at on = Unit {0}
+  Leads (goto l rest) at on = Unit {0}
+  Leads (catch k r body rest) at on = Unit {0}
+  Leads (protect a b rest) at on = Unit {0}
 
   -- from a place on, these pieces of code stand there, and then the last instruction
   unfoldable pub LeadsAll : Instr → List Code → ℕ → Type 0

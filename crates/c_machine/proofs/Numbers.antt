@@ -6,7 +6,7 @@ use Rattle.scheme_data.specs.Decimal.{number_text}
 use Rattle.scheme_data.specs.Fixnum.{IsFixnum, long_word, fixnum_word}
 use Rattle.c_meaning.specs.Word.{Word, Fixnum, False, True, Nil, Unspec, Eof, bits_of, printed}
 use Rattle.c_meaning.specs.Operations.{status_in}
-use Rattle.c_meaning.specs.Checked.{is_byte}
+use Rattle.c_meaning.specs.Plain.{is_byte}
 use Rattle.c_machine.specs.Words.{long_of, fixnum_of, word_text, byte_of, status_of, constant_text}
 
 pub when_true : {A : Type 0} (b : Bool) (x y : A) → b ≡ true → (if b then x else y) ≡ x

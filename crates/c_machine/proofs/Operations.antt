@@ -11,6 +11,7 @@ use Rattle.built_table.specs.Table.{name_of, type_name}
 use Rattle.built_table.specs.declared.primitives.Ty.TheVariants as types
 use Rattle.built_table.specs.declared.primitives.Primitive.{Primitive}
 use Rattle.built_table.specs.declared.primitives.Primitive.TheVariants.{Add, Less, Display, Newline}
+use Rattle.prim_table.specs.declared.primitives.Primitive.TheVariants as table
 use Rattle.c_tree.specs.declared.op.Op.{Op}
 use Rattle.c_tree.specs.declared.op.Op.TheVariants.{BoxLong, BoxBool, UnboxLong, Truth, Raise, Args, Status, Primitive as Prim_op}
 use Rattle.c_tree.specs.declared.tree.CTy.{CTy}
@@ -21,12 +22,12 @@ use Rattle.c_tree.specs.declared.tree.CArg.{CArg}
 use Rattle.c_tree.specs.declared.tree.CArg.TheVariants as arg
 use Rattle.c_tree.specs.declared.tree.CVar.{CVar}
 use Rattle.c_tree.specs.declared.op.Wants.TheVariants.{AType, AnError, AText}
-use Rattle.c_tree.specs.Operations.{wants_of, gives_of}
+use Rattle.c_tree.specs.Operations.{wants_of, gives_of, primitive_op}
 use Rattle.c_meaning.specs.Word.{Word, Fixnum, False, True, Nil, Unspec, Eof, bits_of}
 use Rattle.c_meaning.specs.State.{Cell, AWord, ANumber, State, Frame, Answer, Has, Leaves, Stops, Ends, Faults}
 use Rattle.c_meaning.specs.Operations.{ACell, operate, print, fixnum_in, in_range, is_true, truth_word, truth_number}
 use Rattle.c_meaning.specs.Execution.{Names, atom, arguments}
-use Rattle.c_meaning.specs.Checked.{argument_fits, arguments_fit, atom_fits, is_byte}
+use Rattle.c_meaning.specs.Plain.{argument_fits, arguments_fit, atom_fits, is_built_op, is_byte}
 use Rattle.c_machine.specs.declared.program.Action.{Action}
 use Rattle.c_machine.specs.Words.{long_of, fixnum_of, word_text, byte_of, status_of, truth_of, boxed_truth_of, less_of}
 use Rattle.c_machine.specs.Steps.{look, NeedsAction, Gave, Gives, Quits, performed, ranged, unboxed_of}
@@ -74,6 +75,7 @@ one_arg vars t (arg.Atom a ∷ others) h =
     let p = and_parts (atom_fits vars a t) (arguments_fit vars [] others) h in
     record { first = a; is = ap (λ l. arg.Atom a ∷ l) (no_args vars others p.1); fits = p.0 }
 one_arg vars t (arg.Str text ∷ others) h = absurd (cc)
+one_arg vars t (arg.Entry n ∷ others) h = absurd (cc)
 
 pub two_args : (vars : List CVar) (t u : CTy) (args : List CArg) → arguments_fit vars (AType t ∷ AType u ∷ []) args ≡ true → TwoArgs vars t u args
 two_args vars t u [] h = absurd (cc)
@@ -82,6 +84,7 @@ two_args vars t u (arg.Atom a ∷ others) h =
     let q = one_arg vars u others p.1 in
     record { first = a; second = q.first; is = ap (λ l. arg.Atom a ∷ l) q.is; fits = p.0; fits_too = q.fits }
 two_args vars t u (arg.Str text ∷ others) h = absurd (cc)
+two_args vars t u (arg.Entry n ∷ others) h = absurd (cc)
 
 pub record RaiseArgs (args : List CArg) : Type 0 where
   pub code : ℕ
@@ -92,6 +95,7 @@ pub record RaiseArgs (args : List CArg) : Type 0 where
 text_arg : (vars : List CVar) (args : List CArg) → arguments_fit vars (AText ∷ []) args ≡ true → (text : List ℕ) × (args ≡ arg.Str text ∷ [])
 text_arg vars [] h = absurd (cc)
 text_arg vars (arg.Atom a ∷ others) h = absurd (cc)
+text_arg vars (arg.Entry n ∷ others) h = absurd (cc)
 text_arg vars (arg.Str text ∷ others) h = (text, ap (λ l. arg.Str text ∷ l) (no_args vars others h))
 
 raise_atom : (vars : List CVar) (a : CAtom) → argument_fits vars AnError (arg.Atom a) ≡ true → (code : ℕ) × (a ≡ atoms.Int (pos code)) × (code < 256)
@@ -100,6 +104,7 @@ raise_atom vars (atoms.Int (pos n)) h =
     let le : n ≤ 10 = leb-true n (number_of ZeroDivisor) p.1 in (n, refl, omega arith)
 raise_atom vars (atoms.Int (negsuc n)) h = absurd (cc)
 raise_atom vars (atoms.Name x) h = absurd (cc)
+raise_atom vars (atoms.Sym x) h = absurd (cc)
 raise_atom vars atoms.False h = absurd (cc)
 raise_atom vars atoms.True h = absurd (cc)
 raise_atom vars atoms.Nil h = absurd (cc)
@@ -109,6 +114,7 @@ raise_atom vars atoms.Eof h = absurd (cc)
 pub raise_args : (vars : List CVar) (args : List CArg) → arguments_fit vars (AnError ∷ AText ∷ []) args ≡ true → RaiseArgs args
 raise_args vars [] h = absurd (cc)
 raise_args vars (arg.Str t ∷ others) h = absurd (cc)
+raise_args vars (arg.Entry n ∷ others) h = absurd (cc)
 raise_args vars (arg.Atom a ∷ others) h =
     let p = and_parts (argument_fits vars AnError (arg.Atom a)) (arguments_fit vars (AText ∷ []) others) h in
     let q = raise_atom vars a p.0 in
@@ -182,7 +188,7 @@ ranged_same p z s = by (is_fixnum z) refl
     by true e = (record { fits = e; is = refl }, print_nothing s)
     by false e = (refl, refl)
 
-added_same : (c d : Cell) (s : State) (v w : ℕ) → Slot Long c v → Slot Long d w → (IsFixnum (long_of v)) × (IsFixnum (long_of w)) × Matches Long s (ranged Add (long_of v +ℤ long_of w)) (operate (Prim_op Add) (ACell c ∷ ACell d ∷ []) s)
+added_same : (c d : Cell) (s : State) (v w : ℕ) → Slot Long c v → Slot Long d w → (IsFixnum (long_of v)) × (IsFixnum (long_of w)) × Matches Long s (ranged Add (long_of v +ℤ long_of w)) (operate (primitive_op Add) (ACell c ∷ ACell d ∷ []) s)
 added_same (AWord x) d s v w h i = absurd h.fits
 added_same (ANumber y) (AWord x) s v w h i = absurd i.fits
 added_same (ANumber y) (ANumber z) s v w h i =
@@ -194,7 +200,7 @@ added_same (ANumber y) (ANumber z) s v w h i =
       subst (λ (n : ℤ). Matches Long s (ranged Add n) (in_range Add (y +ℤ z) s)) (sym both) (ranged_same Add (y +ℤ z) s),
     )
 
-less_same : (c d : Cell) (s : State) (v w : ℕ) → Slot Long c v → Slot Long d w → (IsFixnum (long_of v)) × (IsFixnum (long_of w)) × Matches Int s (Gives (less_of (long_of v) (long_of w)) []) (operate (Prim_op Less) (ACell c ∷ ACell d ∷ []) s)
+less_same : (c d : Cell) (s : State) (v w : ℕ) → Slot Long c v → Slot Long d w → (IsFixnum (long_of v)) × (IsFixnum (long_of w)) × Matches Int s (Gives (less_of (long_of v) (long_of w)) []) (operate (primitive_op Less) (ACell c ∷ ACell d ∷ []) s)
 less_same (AWord x) d s v w h i = absurd h.fits
 less_same (ANumber y) (AWord x) s v w h i = absurd i.fits
 less_same (ANumber y) (ANumber z) s v w h i =
@@ -207,7 +213,7 @@ less_same (ANumber y) (ANumber z) s v w h i =
     each true = record { fits = refl; is = refl }
     each false = record { fits = refl; is = refl }
 
-shown_same : (c : Cell) (s : State) (v : ℕ) → Slot Obj c v → Matches Obj s (Gives (bits_of Unspec) (word_text v)) (operate (Prim_op Display) (ACell c ∷ []) s)
+shown_same : (c : Cell) (s : State) (v : ℕ) → Slot Obj c v → Matches Obj s (Gives (bits_of Unspec) (word_text v)) (operate (primitive_op Display) (ACell c ∷ []) s)
 shown_same (ANumber z) s v h = absurd h.fits
 shown_same (AWord w) s v h = (record { fits = tt; is = refl }, ap (λ (t : List ℕ). print t s) (sym (ap word_text h.is ∙ word_text_is w h.fits)))
 
@@ -250,40 +256,44 @@ module _ (vars : List CVar) (f : Frame) (below env : List ℕ) (s : State) (hs :
   abbrev Done : Op → List CArg → Type 0
   Done op args = Operated (gives_of op) s base slots (action_of names op args) (operate op (arguments names f args) s)
 
-  operated_by : (p : Primitive) (args : List CArg) → arguments_fit vars (wants_of (Prim_op p)) args ≡ true → Done (Prim_op p) args
+  operated_by : (p : Primitive) (args : List CArg) → arguments_fit vars (wants_of (primitive_op p)) args ≡ true → Done (primitive_op p) args
   operated_by Add args h =
       let a = two_read Long Long args h in
       let d = added_same (cell a.first) (cell a.second) s (value a.first) (value a.second) a.has.slot a.has_too.slot in
-      subst (Done (Prim_op Add)) (sym a.is) (record { needs = ((a.has.reads, d.0), ((a.has_too.reads, d.1), tt)); same = d.2 })
+      subst (Done (primitive_op Add)) (sym a.is) (record { needs = ((a.has.reads, d.0), ((a.has_too.reads, d.1), tt)); same = d.2 })
   operated_by Less args h =
       let a = two_read Long Long args h in
       let d = less_same (cell a.first) (cell a.second) s (value a.first) (value a.second) a.has.slot a.has_too.slot in
-      subst (Done (Prim_op Less)) (sym a.is) (record { needs = ((a.has.reads, d.0), ((a.has_too.reads, d.1), tt)); same = d.2 })
+      subst (Done (primitive_op Less)) (sym a.is) (record { needs = ((a.has.reads, d.0), ((a.has_too.reads, d.1), tt)); same = d.2 })
   operated_by Display args h =
       let a = one_read Obj args h in
-      subst (Done (Prim_op Display)) (sym a.is) (record { needs = (a.has.reads, tt); same = shown_same (cell a.first) s (value a.first) a.has.slot })
-  operated_by Newline args h = subst (Done (Prim_op Newline)) (sym (no_args vars args h)) (record { needs = tt; same = (record { fits = tt; is = refl }, refl) })
+      subst (Done (primitive_op Display)) (sym a.is) (record { needs = (a.has.reads, tt); same = shown_same (cell a.first) s (value a.first) a.has.slot })
+  operated_by Newline args h = subst (Done (primitive_op Newline)) (sym (no_args vars args h)) (record { needs = tt; same = (record { fits = tt; is = refl }, refl) })
 
-  pub operated : (op : Op) (args : List CArg) → arguments_fit vars (wants_of op) args ≡ true → Done op args
-  operated BoxLong args h =
+  pub operated : (op : Op) (args : List CArg) → is_built_op op ≡ true → arguments_fit vars (wants_of op) args ≡ true → Done op args
+  operated BoxLong args b h =
       let a = one_read Long args h in
       let d = boxed_same (cell a.first) s (value a.first) a.has.slot in
       subst (Done BoxLong) (sym a.is) (record { needs = (a.has.reads, d.0); same = d.1 })
-  operated BoxBool args h =
+  operated BoxBool args b h =
       let a = one_read Int args h in
       subst (Done BoxBool) (sym a.is) (record { needs = a.has.reads; same = boxed_truth_same (cell a.first) s (value a.first) a.has.slot })
-  operated UnboxLong args h =
+  operated UnboxLong args b h =
       let a = one_read Obj args h in
       subst (Done UnboxLong) (sym a.is) (record { needs = a.has.reads; same = unboxed_same (cell a.first) s (value a.first) a.has.slot })
-  operated Truth args h =
+  operated Truth args b h =
       let a = one_read Obj args h in
       subst (Done Truth) (sym a.is) (record { needs = a.has.reads; same = truth_same (cell a.first) s (value a.first) a.has.slot })
-  operated Raise args h =
+  operated Raise args b h =
       let a = raise_args vars args h in
       let code : byte_of (pos a.code) ≡ a.code = when_true (nat_lt a.code 256) a.code 0 (lt-ltb a.code 256 a.small) in
       subst (Done Raise) (sym a.is) (record { needs = tt; same = (ap (λ (n : ℕ). Raised n a.text) code, refl) })
-  operated Args args h = subst (Done Args) (sym (no_args vars args h)) (record { needs = tt; same = (record { fits = tt; is = refl }, print_nothing s) })
-  operated Status args h =
+  operated Args args b h = subst (Done Args) (sym (no_args vars args h)) (record { needs = tt; same = (record { fits = tt; is = refl }, print_nothing s) })
+  operated Status args b h =
       let a = one_read Obj args h in
       subst (Done Status) (sym a.is) (record { needs = a.has.reads; same = status_same (cell a.first) s (value a.first) a.has.slot })
-  operated (Prim_op p) args h = operated_by p args h
+  operated (Prim_op table.Add) args b h = operated_by Add args h
+  operated (Prim_op table.Less) args b h = operated_by Less args h
+  operated (Prim_op table.Display) args b h = operated_by Display args h
+  operated (Prim_op table.Newline) args b h = operated_by Newline args h
+  operated _ args b h = absurd (cc)

@@ -15,7 +15,7 @@ use Rattle.c_tree.specs.Code.{Code, Fun}
 use Rattle.c_tree.specs.Functions.{fun_of, items_of}
 use Rattle.c_meaning.specs.Execution.{entry, exec_main, run, fun_named}
 use Rattle.c_meaning.specs.Program.{cm, run_main, start, shown}
-use Rattle.c_meaning.specs.Checked.{code_fits}
+use Rattle.c_meaning.specs.Plain.{code_fits}
 use Rattle.c_machine.specs.Added.{Added, AddedPart}
 use Rattle.c_machine.specs.Runs.{Ran}
 use Rattle.c_machine.specs.declared.program.Instr.{Instr}

@@ -19,7 +19,7 @@ use Rattle.c_tree.specs.declared.tree.CExpr.{CExpr}
 use Rattle.c_tree.specs.declared.tree.CExpr.TheVariants as expr
 use Rattle.c_tree.specs.declared.tree.CVar.{CVar}
 use Rattle.c_tree.specs.declared.function.CFun.{CFun}
-use Rattle.c_tree.specs.Code.{Code, done, assign, call, return, test, loop, Fun}
+use Rattle.c_tree.specs.Code.{Code, done, assign, call, return, test, loop, ended, goto, catch, protect, Fun}
 use Rattle.c_tree.specs.Functions.{fun_of}
 use Rattle.c_meaning.specs.State.{Cell, AWord, ANumber, State, Frame, put, Answer, Has, Leaves, Stops, Ends as Spent_answer, Faults, Flow, Next, Returns, Raises, Spends, Fails, with, answer, take_from}
 use Rattle.c_meaning.specs.Operations.{print, operate}
@@ -27,7 +27,7 @@ use Rattle.c_meaning.specs.Execution.{position_of, atom, arguments, cells, again
 use Rattle.c_meaning.specs.Program.{shown, end_of}
 use Rattle.c_tree.specs.declared.op.Wants.TheVariants.{AType}
 use Rattle.c_tree.specs.Operations.{wants_of, gives_of}
-use Rattle.c_meaning.specs.Checked.{Signature, signature_named, code_fits, arguments_fit, call_fits_signature, call_type, is_the_type, has_type, expr_fits, assigned_fits, variable_named}
+use Rattle.c_meaning.specs.Plain.{Signature, signature_named, code_fits, arguments_fit, is_built_op, call_fits_signature, call_type, is_the_type, has_type, expr_fits, assigned_fits, variable_named}
 use Rattle.c_machine.specs.declared.program.Target.{Target}
 use Rattle.c_machine.specs.declared.program.Target.TheVariants as target
 use Rattle.c_machine.specs.declared.program.Action.{Action}
@@ -385,8 +385,9 @@ module _ (fs : List CFun) where
     target_sound : (sigs : List Signature) (cal : Named) (args : List CArg) → Callees fs (level_in f) (place_in fs) sigs → is_the_type t (call_type sigs (variables_of f) cal args) ≡ true → Begun (call_of (names_in f) (function_names fs) to cal args) → Gets (invoke_by P (enter_at (level_in f) P b) (run P b) cal (arguments (names_in f) fr args) s) → Safe (call_of (names_in f) (function_names fs) to cal args)
     target_sound sigs (callee.Fun g) args callees fit h e = fun_sound sigs g args (signature_named sigs g) callees refl fit h e
     target_sound sigs (callee.Op op) args callees fit h e =
-        let p = typed_if t (gives_of op) (arguments_fit (variables_of f) (wants_of op) args) fit in
-        let o = operated (variables_of f) fr below env s h.behind.holds op args p.0 in
+        let p = typed_if t (gives_of op) (is_built_op op && arguments_fit (variables_of f) (wants_of op) args) fit in
+        let q = and_parts (is_built_op op) (arguments_fit (variables_of f) (wants_of op) args) p.0 in
+        let o = operated (variables_of f) fr below env s h.behind.holds op args q.0 q.1 in
         does_sound k pc next f left other fr below env frames s b outer to (gives_of op) old w (subst (λ (u : CTy). TargetFits (variables_of f) f.result u to) p.1 df) (action_of (names_in f) op args) h (operate op (arguments (names_in f) fr args) s) o e
 
     expr_sound : (sigs : List Signature) (x : CExpr) → Callees fs (level_in f) (place_in fs) sigs → expr_fits sigs (variables_of f) x t ≡ true → Begun (expr_instr (names_in f) (function_names fs) to x) → Gets (eval_at (level_in f) P b (names_in f) x fr s) → Safe (expr_instr (names_in f) (function_names fs) to x)
@@ -581,6 +582,10 @@ module _ (fs : List CFun) where
         found_sound l.0 (expr_instr (names_in f) (function_names fs) to e) h.found
         (expr_sound typed k pc l.0 f (x ∷ rest ∷ cs1) (y ∷ rest ∷ cs1) fr below env frames s b outer to Int old w refl st.sigs e st.callees p.0 h (is ∙ ap wrapped (test_flow (level_in f) P b (names_in f) cs1 fr s e x y rest l.1)))
     running_sound (loop l x rest ∷ cs1) st is = absurd (let no = st.fits.0 in cc)
+    running_sound (ended x l rest ∷ cs1) st is = absurd (let no = st.fits.0 in cc)
+    running_sound (goto l rest ∷ cs1) st is = absurd (let no = st.fits.0 in cc)
+    running_sound (catch l m x rest ∷ cs1) st is = absurd (let no = st.fits.0 in cc)
+    running_sound (protect x y rest ∷ cs1) st is = absurd (let no = st.fits.0 in cc)
 
   -- a state that means something
   pub means_sound : AllTyped fs (place_in fs) → (c : Config) (o : List ℕ) (w : Observation) → Means fs (place_in fs) c o w → Sound fs (place_in fs) c o w (line_at (decoded fs) c.fun c.pc)

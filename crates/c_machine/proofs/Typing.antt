@@ -15,7 +15,7 @@ use Rattle.c_tree.specs.declared.tree.CVar.{CVar}
 use Rattle.c_meaning.specs.Word.{Word, False, True, Nil, Unspec, Eof, bits_of}
 use Rattle.c_meaning.specs.State.{Cell, AWord, ANumber, Frame, put}
 use Rattle.c_meaning.specs.Execution.{position_of, atom}
-use Rattle.c_meaning.specs.Checked.{same_type, number_fits, is_byte, is_typed, variable_named, atom_fits}
+use Rattle.c_meaning.specs.Plain.{same_type, number_fits, is_byte, is_typed, variable_named, atom_fits}
 use Rattle.c_machine.specs.declared.program.Operand.{Operand}
 use Rattle.c_machine.specs.declared.program.Operand.TheVariants as operand
 use Rattle.c_machine.specs.Steps.{look, Reads}
@@ -120,6 +120,7 @@ name_reading vars f below env t x (Some v) e h hs =
 pub atom_reading : (vars : List CVar) (f : Frame) (below env : List ℕ) (t : CTy) (a : CAtom) → atom_fits vars a t ≡ true → Holds vars f env → Reading t (atom (variable_names vars) f a) (length below) (below ++ env) (operand_of (variable_names vars) a)
 atom_reading vars f below env t (atoms.Int n) h hs = record { slot = number_slot n t h; reads = number_bits n t h }
 atom_reading vars f below env t (atoms.Name x) h hs = name_reading vars f below env t x (variable_named vars x) refl h hs
+atom_reading vars f below env t (atoms.Sym x) h hs = absurd (cc)
 atom_reading vars f below env t atoms.False h hs = record { slot = constant_slot False t tt h; reads = omega arith }
 atom_reading vars f below env t atoms.True h hs = record { slot = constant_slot True t tt h; reads = omega arith }
 atom_reading vars f below env t atoms.Nil h hs = record { slot = constant_slot Nil t tt h; reads = omega arith }

@@ -19,8 +19,8 @@ abbrev pub put : Instr → Decoding → Decoding
 put i d = record { at = d.at - 1; next = d.at - 1; blocks = d.blocks; lines = line i d.next ∷ d.lines }
 
 -- the end of a statement with blocks
-abbrev pub ended : Decoding → Decoding
-ended d = record { at = d.at; next = d.next; blocks = record { after = d.next; second = d.next } ∷ d.blocks; lines = d.lines }
+abbrev pub shut : Decoding → Decoding
+shut d = record { at = d.at; next = d.next; blocks = record { after = d.next; second = d.next } ∷ d.blocks; lines = d.lines }
 
 -- the beginning of the second block of the innermost statement that is open
 abbrev pub parted : List Open → Decoding → Decoding
@@ -45,7 +45,13 @@ decoded names funs (piece.Return e) d = put (expr_instr names funs target.Caller
 decoded names funs (piece.If e) d = put (expr_instr names funs (target.Test (second_in d.blocks)) e) (begun d.blocks d)
 decoded names funs piece.Else d = parted d.blocks d
 decoded names funs (piece.Loop l) d = put instr.Turn (begun d.blocks d)
-decoded names funs piece.End d = ended d
+decoded names funs piece.Begin d = put instr.Stop (begun d.blocks d)
+decoded names funs (piece.Ended l) d = shut d
+decoded names funs (piece.Goto l) d = put instr.Stop d
+decoded names funs (piece.Catch k r) d = put instr.Stop (begun d.blocks d)
+decoded names funs piece.Protect d = put instr.Stop (begun d.blocks d)
+decoded names funs piece.Cleanup d = parted d.blocks d
+decoded names funs piece.End d = shut d
 
 -- pieces, in front of those that were decoded
 abbrev pub decoded_all : Names → Names → List Piece → Decoding → Decoding

@@ -1,6 +1,7 @@
 pub mod Added
 pub mod Decoded
 pub mod Decoding
+pub mod Forms
 pub mod Rows
 pub mod Runs
 pub mod Steps

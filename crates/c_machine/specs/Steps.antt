@@ -13,8 +13,7 @@ use Rattle.built_table.specs.declared.primitives.Primitive.TheVariants.{Add, Les
 use Rattle.c_tree.specs.declared.tree.CTy.TheVariants.{Long}
 use Rattle.c_tree.specs.declared.op.Wants.{Wants}
 use Rattle.c_tree.specs.declared.op.Wants.TheVariants.{AType}
-use Rattle.c_tree.specs.declared.op.Op.TheVariants.{Primitive as Prim_op}
-use Rattle.c_tree.specs.Operations.{wants_of}
+use Rattle.c_tree.specs.Operations.{wants_of, primitive_op}
 use Rattle.c_meaning.specs.Word.{Nil, Unspec, bits_of}
 use Rattle.c_machine.specs.declared.program.Operand.{Operand}
 use Rattle.c_machine.specs.declared.program.Operand.TheVariants as operand
@@ -159,7 +158,7 @@ NeedsAction (action.Truth a) base slots = Reads base slots a
 NeedsAction (action.Raise code text) base slots = Unit {0}
 NeedsAction action.Args base slots = Unit {0}
 NeedsAction (action.Status a) base slots = Reads base slots a
-NeedsAction (action.Primitive p o) base slots = NeedsOperands base slots (wants_of (Prim_op p)) (o.first ∷ o.second ∷ o.third ∷ [])
+NeedsAction (action.Primitive p o) base slots = NeedsOperands base slots (wants_of (primitive_op p)) (o.first ∷ o.second ∷ o.third ∷ [])
 
 abbrev pub NeedsTarget : Target → ℕ → List ℕ → Type 0
 NeedsTarget (target.Local x) base slots = base + x < length slots

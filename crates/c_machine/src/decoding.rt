@@ -2,7 +2,7 @@
 ghost use Rattle.std.specs.Prelude.{◌≡◌, ◌++◌, true, IfOk, OnOk};
 ghost use Rattle.std.specs.List.{list_all};
 ghost use Rattle.c_tree.specs.Functions.{fun_of, items_of};
-ghost use Rattle.c_meaning.specs.Checked.{IsChecked};
+ghost use Rattle.c_meaning.specs.Plain.{IsPlain};
 ghost use Rattle.c_machine.specs.Decoded.{last_of, code_of, has_distinct, function_of, functions_of, definition_in, definitions, IsDecoded};
 
 use crate::lines::Decoding;
@@ -62,6 +62,8 @@ fn add_function(
     ensures { OnOk result (functions.new ≡ functions.old ++ functions_of funs.now (definition_in item.now)) }
 {
     match item {
+        CItem::Extern(_) => Ok(()),
+        CItem::Global(_) => Ok(()),
         CItem::Declared(_, _, _) => Ok(()),
         CItem::Defined(f) => functions.push(function(alloc, funs, f)?),
     }
@@ -82,9 +84,9 @@ fn all_functions(
     Ok(functions)
 }
 
-/// The decoded functions of a checked program, and the place of `main`.
+/// The decoded functions of a plain program, and the place of `main`.
 pub fn decode(alloc: Global, items: &[CItem]) -> Result<(List<Function>, usize), OutOfMemory>
-    requires { IsChecked (items_of items.now) }
+    requires { IsPlain (items_of items.now) }
     ensures { IfOk result (λ d. IsDecoded items.now d.0 d.1) }
 {
     let funs = names_of_functions(alloc, items)?;

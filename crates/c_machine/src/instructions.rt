@@ -1,10 +1,12 @@
 // From expressions to instructions.
 ghost use Rattle.std.specs.Prelude.{◌≡◌, map, slice_get, IfOk};
-ghost use Rattle.c_machine.specs.Decoded.{operand_of, operand_in, operand_at, operands_in, code_in, text_in, action_of, call_of, expr_instr};
+ghost use Rattle.built_table.specs.Table.{built};
+ghost use Rattle.c_machine.specs.Decoded.{operand_of, operand_in, operand_at, operands_in, code_in, text_in, no_action, action_by, action_of, call_of, expr_instr};
 
 use crate::names::place;
 use crate::program::{Action, Instr, Operand, Operands, Target};
 use crate::words::{EOF, FALSE, NIL, TRUE, UNSPEC, bits_of, byte};
+use built_table::Primitive;
 use c_tree::{CArg, CAtom, CCall, CExpr, Callee, Op};
 use name_table::NameTable;
 use scheme_data::{List, OutOfMemory, Text};
@@ -16,6 +18,7 @@ fn atom(names: &NameTable, a: &CAtom) -> Operand
     match a {
         CAtom::Int(n) => Operand::Word(bits_of(*n)),
         CAtom::Name(x) => Operand::Local(place(names, x.as_bytes())),
+        CAtom::Sym(_) => Operand::Word(UNSPEC),
         CAtom::False => Operand::Word(FALSE),
         CAtom::True => Operand::Word(TRUE),
         CAtom::Nil => Operand::Word(NIL),
@@ -30,6 +33,7 @@ fn argument(names: &NameTable, a: &CArg) -> Operand
     match a {
         CArg::Atom(a) => atom(names, a),
         CArg::Str(_) => Operand::Word(0),
+        CArg::Entry(_) => Operand::Word(0),
     }
 }
 
@@ -84,6 +88,22 @@ fn operands(names: &NameTable, args: &List<CArg>) -> Operands
     }
 }
 
+// What stands where no plain program has an action.
+fn no_action() -> Action
+    ensures { result ≡ no_action }
+{
+    Action::Copy(Operand::Word(0))
+}
+
+fn primitive(p: prim_table::Primitive, operands: Operands) -> Action
+    ensures { result ≡ action_by (built p) operands }
+{
+    match Primitive::of_table(p) {
+        Some(p) => Action::Primitive(p, operands),
+        None => no_action(),
+    }
+}
+
 fn action(
     alloc: Global,
     names: &NameTable,
@@ -100,7 +120,8 @@ fn action(
         Op::Raise => Ok(Action::Raise(code_at(args), text_at(alloc, args)?)),
         Op::Args => Ok(Action::Args),
         Op::Status => Ok(Action::Status(argument_at(names, args, 0))),
-        Op::Primitive(p) => Ok(Action::Primitive(p, operands(names, args))),
+        Op::Primitive(p) => Ok(primitive(p, operands(names, args))),
+        _ => Ok(no_action()),
     }
 }
 

@@ -10,10 +10,11 @@ mod names;
 mod output;
 mod performing;
 mod program;
+mod runnable;
 mod stepping;
 mod words;
 
-pub use machine::Machine;
+pub use machine::{LoadErr, Machine};
 
 #[cfg(test)]
 mod tests;

@@ -2,7 +2,7 @@
 ghost use Rattle.std.specs.Prelude.{◌≡◌, ◌∷◌, IfOk, OnOk};
 ghost use Rattle.c_tree.specs.Pieces.{piece_of, opening};
 ghost use Rattle.c_machine.specs.Decoded.{line};
-ghost use Rattle.c_machine.specs.Decoding.{started, put, ended, parted, begun, second_in, decoded};
+ghost use Rattle.c_machine.specs.Decoding.{started, put, shut, parted, begun, second_in, decoded};
 ghost use Rattle.c_machine.specs.declared.program.Instr.TheVariants.{Give};
 
 use crate::instructions::{call, expression};
@@ -60,7 +60,7 @@ impl Decoding {
 
     // The end of a statement with blocks.
     fn end(&mut self) -> Result<(), OutOfMemory>
-        ensures { OnOk result (self.new ≡ ended self.old) }
+        ensures { OnOk result (self.new ≡ shut self.old) }
     {
         let next = self.next;
         self.blocks.push(Open {
@@ -121,6 +121,11 @@ impl Decoding {
                 let _ = self.begin();
                 self.put(Instr::Turn)
             }
+            CStmt::Goto(_) => self.put(Instr::Stop),
+            CStmt::Ended(_, _) | CStmt::Catch(_, _, _) | CStmt::Protect(_, _) => {
+                let _ = self.begin();
+                self.put(Instr::Stop)
+            }
         }
     }
 
@@ -136,8 +141,8 @@ impl Decoding {
     {
         match p {
             PieceRef::Statement(s) => self.statement(alloc, names, funs, s),
-            PieceRef::Else => self.part(),
-            PieceRef::End => self.end(),
+            PieceRef::Else | PieceRef::Cleanup => self.part(),
+            PieceRef::Ended(_) | PieceRef::End => self.end(),
         }
     }
 

@@ -1,18 +1,39 @@
-ghost use Rattle.std.specs.Prelude.{◌≡◌, ◌≤◌, [], IfOk, OnErr, Err, IsErrOf, replicate};
+ghost use Rattle.std.specs.Prelude.{◌≡◌, ◌≤◌, [], false, IfOk, OnErr, Err, IsErrOf, replicate};
 ghost use Rattle.base_io.specs.Causes.{Rose};
 ghost use Rattle.c_tree.specs.Functions.{items_of};
 ghost use Rattle.c_meaning.specs.Program.{cm};
+ghost use Rattle.c_meaning.specs.Runnable.{is_runnable, IsRunnable};
 ghost use Rattle.c_machine.specs.Runs.{Ran};
 
 use crate::calling::push_zeros;
 use crate::decoding::decode;
 use crate::program::{FIRST, Function};
+use crate::runnable::is_runnable;
 use crate::stepping::{Acc, Flow, Regs, Stacks, fetch, function_at, step};
 use base_io::{End, RunErr, Sink};
 use c_check::Checked;
 use scheme_data::{List, OutOfMemory, Stack, TextList};
 use std::alloc::Global;
 use std::marker::Model;
+
+/// Why there is no machine for a checked program.
+#[derive(Clone, Copy, Debug, PartialEq, Eq)]
+pub enum LoadErr {
+    /// It has a form that the machine doesn't do so far.
+    NotRunnable,
+    /// Memory was wanted and not given.
+    Memory,
+}
+
+impl From<OutOfMemory> for LoadErr {
+    ghost use Rattle.c_machine.specs.declared.machine.LoadErr.TheVariants.{Memory};
+
+    ghost from_gives = { λ _ e. e ≡ Memory };
+
+    fn from(_: OutOfMemory) -> Self {
+        LoadErr::Memory
+    }
+}
 
 /// A machine for one program.
 #[derive(Drop)]
@@ -55,11 +76,17 @@ fn boot(alloc: Global, locals: usize) -> Result<Stacks, RunErr>
 
 impl Machine {
     /// A machine for a checked program; a refused one is dropped.
-    /// An `OutOfMemory` comes only for want of memory.
-    pub fn new(alloc: Global, p: Checked) -> Result<Machine, OutOfMemory>
-        ensures { IfOk result (λ m. m ≡ p) }
+    /// A `NotRunnable` comes exactly for one that isn't runnable, and a `Memory` only for want of memory.
+    pub fn new(alloc: Global, p: Checked) -> Result<Machine, LoadErr>
+        ensures ok { IfOk result (λ m. (m ≡ p) × IsRunnable (items_of p.items)) }
+        ensures refused { IsErrOf result LoadErr.NotRunnable → is_runnable (items_of p.items) ≡ false }
+        ensures found { is_runnable (items_of p.items) ≡ false → IsErrOf result LoadErr.NotRunnable }
     {
-        let (functions, main) = decode(alloc, p.program().items.as_slice())?;
+        let items = p.program().items.as_slice();
+        if !is_runnable(items) {
+            return Err(LoadErr::NotRunnable);
+        }
+        let (functions, main) = decode(alloc, items)?;
         Ok(Machine {
             alloc,
             program: p,

@@ -54,6 +54,8 @@ fn add_definition(names: &mut NameTable, item: &CItem) -> Result<(), OutOfMemory
     ensures { OnOk result (names.new ≡ names.old ++ function_names (definition_in item.now)) }
 {
     match item {
+        CItem::Extern(_) => Ok(()),
+        CItem::Global(_) => Ok(()),
         CItem::Declared(_, _, _) => Ok(()),
         CItem::Defined(f) => add(names, f.name.as_bytes()),
     }

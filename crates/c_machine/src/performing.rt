@@ -3,8 +3,7 @@ ghost use Rattle.std.specs.Prelude.{◌≡◌, ◌≤◌, ◌+ℤ◌, [], ◌∷
 ghost use Rattle.scheme_data.specs.Fixnum.{IsFixnum};
 ghost use Rattle.base_io.specs.Causes.{Rose};
 ghost use Rattle.base_io.specs.declared.end.End.TheVariants.{Raised};
-ghost use Rattle.c_tree.specs.declared.op.Op.{Op};
-ghost use Rattle.c_tree.specs.Operations.{wants_of};
+ghost use Rattle.c_tree.specs.Operations.{wants_of, primitive_op};
 ghost use Rattle.c_machine.specs.Steps.{look, acted, performed, Reads, NeedsOperands, NeedsAction, Performs, Stopped, Yields, ranged, unboxed_of};
 ghost use Rattle.c_machine.specs.Words.{long_of};
 
@@ -116,7 +115,7 @@ fn act<K: Sink>(
     acc: &mut Acc,
     out: &mut K,
 ) -> Flow
-    requires { NeedsOperands base slots.now (wants_of (Op.Primitive p)) (operands.now.first ∷ operands.now.second ∷ operands.now.third ∷ []) }
+    requires { NeedsOperands base slots.now (wants_of (primitive_op p)) (operands.now.first ∷ operands.now.second ∷ operands.now.third ∷ []) }
     ensures does { Performs (acted p (look base slots.now operands.now.first) (look base slots.now operands.now.second) (look base slots.now operands.now.third)) result acc.new.value acc.new.end (K.written out.old) (K.written out.new) }
     ensures later { K.faults out.old ≤ K.faults out.new }
     ensures cause { result ≡ Flow.WriteFault → Rose (K.faults out.old) (K.faults out.new) }

@@ -1,8 +1,8 @@
 use crate::Machine;
 use base_io::{End, MemSink, RunErr};
-use built_table::Primitive;
 use c_check::check;
 use c_tree::{CAtom, CCall, CExpr, CFun, CItem, CProgram, CTy, Callee, Op, Piece, lay_out};
+use prim_table::Primitive;
 use scheme_data::{CallList, List, OutOfMemory, Text, TextList};
 use std::alloc::Global;
 
@@ -39,7 +39,9 @@ fn a_run_after_a_failed_one_is_as_the_first(rt: HostRuntime) -> Result<(), OutOf
     let Ok(checked) = check(alloc, shows_a_line_end(alloc)?) else {
         return Err(OutOfMemory);
     };
-    let mut machine = Machine::new(alloc, checked)?;
+    let Ok(mut machine) = Machine::new(alloc, checked) else {
+        return Err(OutOfMemory);
+    };
     let end = machine.run(0, b"", &args, &mut sink);
     assert!(rt; end.is_err_and(|e| e == RunErr::WriteFault));
     assert_eq!(rt; sink.bytes(), b"".as_slice());
