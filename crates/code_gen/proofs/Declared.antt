@@ -19,7 +19,7 @@ use Rattle.c_tree.specs.declared.tree.CTy.{CTy}
 use Rattle.c_tree.specs.declared.tree.CTy.TheVariants.{Obj}
 use Rattle.c_tree.specs.Names.{function_name, is_function_name}
 use Rattle.c_tree.proofs.CNames.{named_function, function_name_parts}
-use Rattle.c_meaning.specs.Checked.{Role, Function, role_of, may_call, signature_named, same_types, same_signature, callable, agrees}
+use Rattle.c_meaning.specs.Plain.{Role, Function, role_of, may_call, signature_named, same_types, same_signature, callable, agrees}
 use Rattle.plan_rules.specs.Translation.{Name, c_name_of, callees}
 use Rattle.plan_rules.proofs.NameKinds.{function_role, last_names, last_other, last_distinct, other_name}
 use Rattle.code_gen.proofs.Variables.{own_type}

@@ -11,8 +11,8 @@ use Rattle.c_tree.specs.declared.tree.CVar.{CVar}
 use Rattle.c_tree.specs.Code.{Code, done, loop, Fun, defined}
 use Rattle.c_tree.specs.Names.{local_name, label_name, is_function_name}
 use Rattle.c_tree.specs.Spelling.{NamedVars, NamedCode, NamedItem}
-use Rattle.c_tree.proofs.NameShapes.{is_label_name-label_name}
-use Rattle.c_meaning.specs.Checked.{Signature, signature_of, variables_of, code_fits, Function, role_of, is_looped, has_shape, function_fits}
+use Rattle.c_tree.proofs.NameShapes.{is_label_name-label_name, local_name_is_variable}
+use Rattle.c_meaning.specs.Plain.{Signature, signature_of, variables_of, code_fits, Function, role_of, is_looped, has_shape, function_fits}
 use Rattle.plan_rules.specs.declared.rep.Rep.{Rep}
 use Rattle.plan_rules.specs.declared.rep.Rep.TheVariants.{Obj}
 use Rattle.plan_rules.specs.Representation.{Slot, PlainAt, slot_of, c_type_of}
@@ -150,7 +150,7 @@ pub grounded : (m : ModuleTree) (w : IsWellFormed m) (cs : List Callee) (params 
 grounded m w cs params locals within covers has =
     let vars = variables_with params locals in
     record {
-      locals_named = λ x t l. local_named vars x t has.all_named l;
+      locals_named = λ x t l. local_name_is_variable x (local_named vars x t has.all_named l);
       scoped = scoped vars 0 params has.words_local;
       signed = λ r c found. let here = called m r c found in signed (callees m) (callees_distinct m w) c cs here within (covers c here);
       called_named = λ r c found. named_at (callees m) c (callees_named m w) (called m r c found);

@@ -7,7 +7,7 @@ use Rattle.core_tree.specs.declared.tree.Const.{Const}
 use Rattle.core_tree.specs.declared.tree.VarId.{VarId}
 use Rattle.core_tree.specs.declared.tree.GlobalRef.{GlobalRef}
 use Rattle.core_tree.specs.Tree.{Tree, Constant, Variable, If, Call, Primitive, Trees, Callee, callee_of}
-use Rattle.c_tree.specs.declared.op.Op.TheVariants.{Primitive as Does}
+use Rattle.c_tree.specs.Operations.{primitive_op}
 use Rattle.c_tree.specs.declared.tree.CArg.{CArg}
 use Rattle.c_tree.specs.declared.tree.CAtom.TheVariants as atom
 use Rattle.c_tree.specs.declared.tree.CCall.{CCall}
@@ -79,16 +79,16 @@ module _ (w : Setting) where
   }
 
   pub tr_primitive : (vars : List CVar) (p : Builtin) (ns : Trees) (h : Rep) (live : List Name) (args : List CArg) (target : Target) (code middle rest : Code) → h ≡ rep_of (result_of p)
-      → AreReady w (params_of p) ns live args vars code middle → middle ≡ deliver target (expr.Call (operation (Does p) args)) rest → TrIn w vars (Primitive p ns) h live target code rest
+      → AreReady w (params_of p) ns live args vars code middle → middle ≡ deliver target (expr.Call (operation (primitive_op p) args)) rest → TrIn w vars (Primitive p ns) h live target code rest
   unfolding Tr
   tr_primitive vars p ns h live args target code middle rest h_is ready e =
-      (h_is, applied_to vars (params_of p) ns live args (λ args. deliver target (expr.Call (operation (Does p) args)) rest) code middle ready e)
+      (h_is, applied_to vars (params_of p) ns live args (λ args. deliver target (expr.Call (operation (primitive_op p) args)) rest) code middle ready e)
 
   pub unused_primitive_is : (vars : List CVar) (p : Builtin) (ns : Trees) (live : List Name) (args : List CArg) (code middle rest : Code)
-      → AreReady w (params_of p) ns live args vars code middle → middle ≡ call (operation (Does p) args) rest → TrUnusedIn w vars (Primitive p ns) live code rest
+      → AreReady w (params_of p) ns live args vars code middle → middle ≡ call (operation (primitive_op p) args) rest → TrUnusedIn w vars (Primitive p ns) live code rest
   unfolding TrUnused
   unused_primitive_is vars p ns live args code middle rest ready e =
-      applied_to vars (params_of p) ns live args (λ args. call (operation (Does p) args) rest) code middle ready e
+      applied_to vars (params_of p) ns live args (λ args. call (operation (primitive_op p) args) rest) code middle ready e
 
   module _ (vars : List CVar) (g : GlobalRef) (f : Callee) (ns : Trees) (live : List Name) (found : callee_of w.in_module g ≡ Some f) where
     abbrev Evaluated : List Name → Code → Code → Type 0

@@ -13,7 +13,7 @@ use Rattle.core_tree.specs.declared.tree.VarId.{VarId}
 use Rattle.core_tree.specs.declared.tree.GlobalRef.{GlobalRef}
 use Rattle.core_tree.specs.Tree.{Tree, Constant, Variable, If, Sequence, Call, Primitive, Trees, none, more, count, Callee, callee_of}
 use Rattle.c_tree.specs.declared.op.Op.{Op}
-use Rattle.c_tree.specs.declared.op.Op.TheVariants.{BoxLong, BoxBool, UnboxLong, Truth, Primitive as Does}
+use Rattle.c_tree.specs.declared.op.Op.TheVariants.{BoxLong, BoxBool, UnboxLong, Truth}
 use Rattle.c_tree.specs.declared.tree.CTy.{CTy}
 use Rattle.c_tree.specs.declared.tree.CTy.TheVariants as c_ty
 use Rattle.c_tree.specs.declared.tree.CArg.{CArg}
@@ -23,13 +23,13 @@ use Rattle.c_tree.specs.declared.tree.CCall.{CCall}
 use Rattle.c_tree.specs.declared.tree.CExpr.{CExpr}
 use Rattle.c_tree.specs.declared.tree.CExpr.TheVariants as expr
 use Rattle.c_tree.specs.declared.tree.CVar.{CVar}
-use Rattle.c_tree.specs.Code.{Code, done, assign, call, return, test, loop}
-use Rattle.c_tree.specs.Names.{is_local_name, is_function_name}
+use Rattle.c_tree.specs.Code.{Code, done, assign, call, return, test, loop, ended, goto, catch, protect}
+use Rattle.c_tree.specs.Names.{is_variable_name, is_function_name}
 use Rattle.c_tree.specs.Spelling.{NamedArguments, NamedCall, NamedExpr, NamedCode}
 use Rattle.c_tree.specs.declared.op.Wants.{Wants}
 use Rattle.c_tree.specs.declared.op.Wants.TheVariants.{AType}
-use Rattle.c_tree.specs.Operations.{wants_of, gives_of}
-use Rattle.c_meaning.specs.Checked.{Signature, signature_named, same_type, is_typed, variable_named, arguments_fit, call_fits_signature, call_type, is_the_type, has_type, expr_fits, assigned_fits, code_fits, returns_last}
+use Rattle.c_tree.specs.Operations.{wants_of, gives_of, primitive_op}
+use Rattle.c_meaning.specs.Plain.{Signature, signature_named, same_type, is_typed, variable_named, arguments_fit, call_fits_signature, is_built_op, call_type, is_the_type, has_type, expr_fits, assigned_fits, code_fits, returns_last}
 use Rattle.plan_rules.specs.declared.rep.Rep.{Rep}
 use Rattle.plan_rules.specs.declared.rep.Rep.TheVariants.{Obj, Long, Bool as Truth_rep}
 use Rattle.plan_rules.specs.Representation.{Slot, PlainAt, slot_of, rep_of, c_type_of, has_of, constant_expr, condition, operation, raise_count, raise_type, call_of, local, step}
@@ -63,7 +63,7 @@ signature f = record { name = c_name_of f; result = c_ty.Obj; params = replicate
 
 -- what the statements of a function rest on: their variables are locals, and the functions that they may call are declared
 pub record Grounds (w : Setting) (sigs : List Signature) (vars : List CVar) : Type 0 where
-  pub locals_named : (x : Name) (t : CTy) → IsLocal vars x t → IsTrue (is_local_name x)
+  pub locals_named : (x : Name) (t : CTy) → IsLocal vars x t → IsTrue (is_variable_name x)
   pub scoped : (x : VarId) (r : Rep) (y : Name) → slot_of x (scope_in w) ≡ Some (PlainAt r y) → IsLocal vars y (c_type_of r)
   pub signed : (g : GlobalRef) (f : Callee) → callee_of w.in_module g ≡ Some f → signature_named sigs (c_name_of f) ≡ Some (signature f)
   pub called_named : (g : GlobalRef) (f : Callee) → callee_of w.in_module g ≡ Some f → IsTrue (is_function_name (c_name_of f))
@@ -86,6 +86,10 @@ returns_over e (call c rest) h = h
 returns_over e (return f rest) h = h
 returns_over e (test f a b rest) h = h
 returns_over e (loop l body rest) h = h
+returns_over e (ended body l rest) h = h
+returns_over e (goto l rest) h = h
+returns_over e (catch k r body rest) h = h
+returns_over e (protect a b rest) h = h
 
 module _ (w : Setting) (sigs : List Signature) (vars : List CVar) (grounds : Grounds w sigs vars) where
   -- the types of statements fit and their names are right, and if they are to, they end with `return`
@@ -120,8 +124,8 @@ module _ (w : Setting) (sigs : List Signature) (vars : List CVar) (grounds : Gro
     typed : call_type sigs vars c.callee c.args ≡ Some t
     named : NamedCall c
 
-  fine_operation : (op : Op) (args : List CArg) → FineArgs (wants_of op) args → FineCall (operation op args) (gives_of op)
-  fine_operation op args h = record { typed = rw h.fits refl; named = (tt, h.named) }
+  fine_operation : (op : Op) (args : List CArg) → is_built_op op ≡ true → FineArgs (wants_of op) args → FineCall (operation op args) (gives_of op)
+  fine_operation op args built h = record { typed = rw (built, h.fits) refl; named = (tt, h.named) }
 
   -- the signature is found, and the arguments fit it
   fine_function : (g : GlobalRef) (f : Callee) (args : List CArg) → callee_of w.in_module g ≡ Some f → FineArgs (map AType (replicate f.params c_ty.Obj)) args
@@ -141,11 +145,11 @@ module _ (w : Setting) (sigs : List Signature) (vars : List CVar) (grounds : Gro
   fine_refusal t = record { typed = refl; named = (tt, (refl, (tt, tt))) }
 
   -- an operation on a local
-  fine_on : (op : Op) (x : Name) (t : CTy) → wants_of op ≡ AType t ∷ [] → IsLocal vars x t → FineExpr (expr.Call (operation op (local x ∷ []))) (gives_of op)
-  fine_on op x t wants h =
+  fine_on : (op : Op) (x : Name) (t : CTy) → is_built_op op ≡ true → wants_of op ≡ AType t ∷ [] → IsLocal vars x t → FineExpr (expr.Call (operation op (local x ∷ []))) (gives_of op)
+  fine_on op x t built wants h =
       let fits : FineArgs (AType t ∷ []) (local x ∷ []) =
       record { fits = and_from (is_typed t (variable_named vars x)) true h refl; named = (grounds.locals_named x t h, tt) } in
-      fine_call (operation op (local x ∷ [])) (gives_of op) (fine_operation op (local x ∷ []) (subst (λ ws. FineArgs ws (local x ∷ [])) (sym wants) fits))
+      fine_call (operation op (local x ∷ [])) (gives_of op) (fine_operation op (local x ∷ []) built (subst (λ ws. FineArgs ws (local x ∷ [])) (sym wants) fits))
 
   fine_constant : (k : Const) (h : Rep) (e : CExpr) → IsNode w (Constant k) → constant_expr k h ≡ Some e → FineExpr e (c_type_of h)
   fine_constant (const.Int n) Obj e x is =
@@ -161,7 +165,7 @@ module _ (w : Setting) (sigs : List Signature) (vars : List CVar) (grounds : Gro
 
   -- what a test's local chooses by
   fine_condition : (h : Rep) (y : Name) → IsLocal vars y (c_type_of h) → FineExpr (condition h y) c_ty.Int
-  fine_condition Obj y l = fine_on Truth y c_ty.Obj refl l
+  fine_condition Obj y l = fine_on Truth y c_ty.Obj refl refl l
   fine_condition Long y l = record { fits = refl; named = refl }
   fine_condition Truth_rep y l = fine_local y c_ty.Int l
 
@@ -231,11 +235,11 @@ module _ (w : Setting) (sigs : List Signature) (vars : List CVar) (grounds : Gro
   made_one ty.Bool Truth_rep live y code made rest f l = subst (λ x. IsLocal vars x c_ty.Int) (sym f.1) l
 
   -- an operation on the value goes to a local
-  fine_made_by : {last : Bool} (o : Op) (t u : CTy) (y made : Name) (code rest : Code) → wants_of o ≡ AType t ∷ [] → gives_of o ≡ u → IsLocal vars y t → IsLocal vars made u
+  fine_made_by : {last : Bool} (o : Op) (t u : CTy) (y made : Name) (code rest : Code) → is_built_op o ≡ true → wants_of o ≡ AType t ∷ [] → gives_of o ≡ u → IsLocal vars y t → IsLocal vars made u
       → code ≡ assign made (expr.Call (operation o (local y ∷ []))) rest → Fine last rest → Fine last code
-  fine_made_by o t u y made code rest wants gives l m is g =
+  fine_made_by o t u y made code rest built wants gives l m is g =
       let e = expr.Call (operation o (local y ∷ [])) in
-      subst (Fine _) (sym is) (fine_assign made u e rest m (subst (FineExpr e) gives (fine_on o y t wants l)) g)
+      subst (Fine _) (sym is) (fine_assign made u e rest m (subst (FineExpr e) gives (fine_on o y t built wants l)) g)
 
   -- an error, and then the number 0
   fine_zero : {last : Bool} (t : Ty) (u : CTy) (made : Name) (code rest : Code) → FineExpr (whole 0) u → IsLocal vars made u → code ≡ call (raise_type t) (assign made (whole 0) rest) → Fine last rest → Fine last code
@@ -243,9 +247,9 @@ module _ (w : Setting) (sigs : List Signature) (vars : List CVar) (grounds : Gro
 
   fine_one : {last : Bool} (t : Ty) (h : Rep) (live : List Name) (y : Name) (code : Code) (made : Name) (rest : Code) → Fits vars t (step t h) live y code made rest → IsLocal vars y (c_type_of h) → Fine last rest → Fine last code
   fine_one ty.Obj Obj live y code made rest f l g = subst (Fine _) (sym f.0) g
-  fine_one ty.Obj Long live y code made rest f l g = fine_made_by BoxLong c_ty.Long c_ty.Obj y made code rest refl refl l f.is_local f.is g
-  fine_one ty.Obj Truth_rep live y code made rest f l g = fine_made_by BoxBool c_ty.Int c_ty.Obj y made code rest refl refl l f.is_local f.is g
-  fine_one ty.Long Obj live y code made rest f l g = fine_made_by UnboxLong c_ty.Obj c_ty.Long y made code rest refl refl l f.is_local f.is g
+  fine_one ty.Obj Long live y code made rest f l g = fine_made_by BoxLong c_ty.Long c_ty.Obj y made code rest refl refl refl l f.is_local f.is g
+  fine_one ty.Obj Truth_rep live y code made rest f l g = fine_made_by BoxBool c_ty.Int c_ty.Obj y made code rest refl refl refl l f.is_local f.is g
+  fine_one ty.Long Obj live y code made rest f l g = fine_made_by UnboxLong c_ty.Obj c_ty.Long y made code rest refl refl refl l f.is_local f.is g
   fine_one ty.Long Long live y code made rest f l g = subst (Fine _) (sym f.0) g
   fine_one ty.Long Truth_rep live y code made rest f l g = fine_zero ty.Long c_ty.Long made code rest (record { fits = refl; named = refl }) f.is_local f.is g
   fine_one ty.Bool Obj live y code made rest f l g = absurd f
@@ -294,11 +298,14 @@ module _ (w : Setting) (sigs : List Signature) (vars : List CVar) (grounds : Gro
   made_named [] (y ∷ ys) h = absurd h
   made_named (t ∷ ts) [] h = absurd h
 
-  wants-params : (p : Builtin) → wants_of (Does p) ≡ map wanted (params_of p)
+  wants-params : (p : Builtin) → wants_of (primitive_op p) ≡ map wanted (params_of p)
   wants-params p = search rules
 
-  gives-result : (p : Builtin) → gives_of (Does p) ≡ c_type_of (rep_of (result_of p))
+  gives-result : (p : Builtin) → gives_of (primitive_op p) ≡ c_type_of (rep_of (result_of p))
   gives-result p = search rules
+
+  built-primitive : (p : Builtin) → is_built_op (primitive_op p) ≡ true
+  built-primitive p = search rules
 
   fine_made : (ts : List Ty) (made : List Name) → AreMade made ts → FineArgs (map wanted ts) (map local made)
   fine_made ts made h = record { fits = made_fit ts made h; named = made_named ts made h }
@@ -317,10 +324,10 @@ module _ (w : Setting) (sigs : List Signature) (vars : List CVar) (grounds : Gro
 
   -- Calls -----------------------------------------------------------------------------------
 
-  fine_primitive : (p : Builtin) (args : List CArg) → FineArgs (map wanted (params_of p)) args → FineCall (operation (Does p) args) (c_type_of (rep_of (result_of p)))
+  fine_primitive : (p : Builtin) (args : List CArg) → FineArgs (map wanted (params_of p)) args → FineCall (operation (primitive_op p) args) (c_type_of (rep_of (result_of p)))
   fine_primitive p args h =
-      let fits : FineArgs (wants_of (Does p)) args = subst (λ ws. FineArgs ws args) (sym (wants-params p)) h in
-      subst (FineCall (operation (Does p) args)) (gives-result p) (fine_operation (Does p) args fits)
+      let fits : FineArgs (wants_of (primitive_op p)) args = subst (λ ws. FineArgs ws args) (sym (wants-params p)) h in
+      subst (FineCall (operation (primitive_op p) args)) (gives-result p) (fine_operation (primitive_op p) args (built-primitive p) fits)
 
   fine_counted : {last : Bool} (right : Bool) (g : GlobalRef) (f : Callee) (ns : Trees) (live : List Name) (finish : CCall → Code) (code rest : Code)
       → is_counted f ns ≡ right → callee_of w.in_module g ≡ Some f
@@ -368,10 +375,10 @@ module _ (w : Setting) (sigs : List Signature) (vars : List CVar) (grounds : Gro
   fine_coerced Obj given live target code rest each l c g = each target code rest c l g
   fine_coerced Long given live target code rest each l c g =
       each (into c.temporary) code c.middle c.value c.is_local
-      (subst (Fine _) (sym c.box) (fine_deliver target Obj (expr.Call (operation BoxLong (local c.temporary ∷ []))) rest l (fine_on BoxLong c.temporary c_ty.Long refl c.is_local) g))
+      (subst (Fine _) (sym c.box) (fine_deliver target Obj (expr.Call (operation BoxLong (local c.temporary ∷ []))) rest l (fine_on BoxLong c.temporary c_ty.Long refl refl c.is_local) g))
   fine_coerced Truth_rep given live target code rest each l c g =
       each (into c.temporary) code c.middle c.value c.is_local
-      (subst (Fine _) (sym c.box) (fine_deliver target Obj (expr.Call (operation BoxBool (local c.temporary ∷ []))) rest l (fine_on BoxBool c.temporary c_ty.Int refl c.is_local) g))
+      (subst (Fine _) (sym c.box) (fine_deliver target Obj (expr.Call (operation BoxBool (local c.temporary ∷ []))) rest l (fine_on BoxBool c.temporary c_ty.Int refl refl c.is_local) g))
 
   fine_branches : {last : Bool} (h : Rep) (given : Statements) (live : List Name) (one other : Code → Type 0) (code rest : Code) → AllFine last given h → ((code : Code) → one code → Fine false code) → ((code : Code) → other code → Fine false code)
       → Branches vars h given live one other code rest → Fine last rest → Fine last code
@@ -403,10 +410,10 @@ module _ (w : Setting) (sigs : List Signature) (vars : List CVar) (grounds : Gro
         (λ ys code middle a f. fine_arguments ns x.1 (objects ns) live ys code middle a f)
         (λ c f. fine_deliver target Obj (expr.Call c) rest (subst (TargetFits target) t.0 l) (fine_call c c_ty.Obj f) g) g t.1
     fine_tr (Primitive p ns) x h live target code rest t l g =
-        fine_applied (params_of p) ns live (λ args. deliver target (expr.Call (operation (Does p) args)) rest) code
+        fine_applied (params_of p) ns live (λ args. deliver target (expr.Call (operation (primitive_op p) args)) rest) code
         (λ ys code middle a f. fine_arguments ns x.1 (params_of p) live ys code middle a f)
-        (λ args f. fine_deliver target h (expr.Call (operation (Does p) args)) rest l
-        (subst (λ k. FineExpr (expr.Call (operation (Does p) args)) (c_type_of k)) (sym t.0) (fine_call (operation (Does p) args) (c_type_of (rep_of (result_of p))) (fine_primitive p args f))) g)
+        (λ args f. fine_deliver target h (expr.Call (operation (primitive_op p) args)) rest l
+        (subst (λ k. FineExpr (expr.Call (operation (primitive_op p) args)) (c_type_of k)) (sym t.0) (fine_call (operation (primitive_op p) args) (c_type_of (rep_of (result_of p))) (fine_primitive p args f))) g)
         t.1
 
     fine_arguments : {last : Bool} (ns : Trees) → AreNodes w ns → (ts : List Ty) (live ys : List Name) (code rest : Code) → TrArgumentsIn w vars ts ns live ys code rest → Fine last rest → Fine last code
@@ -430,8 +437,8 @@ module _ (w : Setting) (sigs : List Signature) (vars : List CVar) (grounds : Gro
       fine_called (callee_of w.in_module f) f ns live (λ c. call c rest) code rest refl
       (λ ys code middle a f. fine_arguments ns x.1 (objects ns) live ys code middle a f) (λ c f. fine_statement c c_ty.Obj rest f g) g t
   fine_unused (Primitive p ns) x live code rest t g =
-      fine_applied (params_of p) ns live (λ args. call (operation (Does p) args) rest) code (λ ys code middle a f. fine_arguments ns x.1 (params_of p) live ys code middle a f)
-      (λ args f. fine_statement (operation (Does p) args) (c_type_of (rep_of (result_of p))) rest (fine_primitive p args f) g) t
+      fine_applied (params_of p) ns live (λ args. call (operation (primitive_op p) args) rest) code (λ ys code middle a f. fine_arguments ns x.1 (params_of p) live ys code middle a f)
+      (λ args f. fine_statement (operation (primitive_op p) args) (c_type_of (rep_of (result_of p))) rest (fine_primitive p args f) g) t
 
   pub fine_last : {last : Bool} (ts : Trees) → AreNodes w ts → (live : List Name) (code rest : Code) → TrLastIn w vars ts Obj live back code rest → Fine last rest → Fine last code
   unfolding TrLast

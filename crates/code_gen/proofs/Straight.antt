@@ -10,7 +10,7 @@ use Rattle.c_tree.specs.declared.tree.CTy.TheVariants.{Obj}
 use Rattle.c_tree.specs.Code.{done, return, Fun, Item, defined}
 use Rattle.c_tree.specs.Names.{function_name, maker_name, initializer_name, is_function_name}
 use Rattle.c_tree.specs.Spelling.{NamedVars, NamedCode, NamedItem, NamedItems}
-use Rattle.c_meaning.specs.Checked.{Role, Maker, Initializer, role_of, Signature, signature_of, same_signature, variables_of, code_fits, returns_last, is_straight, has_shape, function_fits, may_call, callable, agrees, items_fit, defined_names}
+use Rattle.c_meaning.specs.Plain.{Role, Maker, Initializer, role_of, Signature, signature_of, same_signature, variables_of, code_fits, returns_last, is_straight, has_shape, function_fits, may_call, callable, agrees, items_fit, defined_names}
 use Rattle.plan_rules.specs.Translation.{Name, c_name_of, callees, IsEmpty, TrFunctions}
 use Rattle.code_gen.specs.Settings.{Setting}
 use Rattle.code_gen.specs.Emission.{unspecified, IsInitialization}
@@ -99,10 +99,10 @@ module _ (m : ModuleTree) (w : IsWellFormed m) (maker initializer : Fun) (made :
   last_translated = (made, (initialized.forms, tt))
 
   is_maker : role_of maker.name ≡ Maker
-  is_maker = ap role_of made.named ∙ maker_role m.name (named_maker m.name w.name)
+  is_maker = ap role_of made.named ∙ maker_role m.name
 
   is_initializer : role_of initializer.name ≡ Initializer
-  is_initializer = ap role_of initialized.forms.named ∙ initializer_role m.name (named_initializer m.name w.name)
+  is_initializer = ap role_of initialized.forms.named ∙ initializer_role m.name
 
   -- Behind declarations of all functions that may be called.
   module _ (ds : List Callee) (within : Within ds (callees m)) (covers : Within (callees m) ds) where
@@ -122,21 +122,23 @@ module _ (m : ModuleTree) (w : IsWellFormed m) (maker initializer : Fun) (made :
     initializer_fits names all =
         let first = signature_of (defined maker) in
         let s = signature_of (defined initializer) in
+        let known = s ∷ first ∷ sigs in
         let differs : is_same maker.name initializer.name ≡ false = rw (made.named, initialized.forms.named) (maker_not_initializer m.name) in
         let same : agrees (first ∷ sigs) s ≡ true =
         ap (λ b. (not b || same_signature first s) && agrees sigs s) differs ∙ agrees_alone (initializer_name m.name) ds s (function_not_initializer m.name) initialized.forms.named in
-        let calls : callable (role_of initializer.name) names (first ∷ sigs) ≡ sigs =
-        ap (λ r. callable r names (first ∷ sigs)) is_initializer ∙ not_callable Initializer names first sigs (ap (may_call Initializer) is_maker) ∙ all in
-        let fits : function_fits (callable (role_of initializer.name) names (first ∷ sigs)) initializer ≡ true =
+        let calls : callable (role_of initializer.name) names known ≡ sigs =
+        ap (λ r. callable r names known) is_initializer ∙ not_callable Initializer names s (first ∷ sigs) (ap (may_call Initializer) is_initializer)
+        ∙ not_callable Initializer names first sigs (ap (may_call Initializer) is_maker) ∙ all in
+        let fits : function_fits (callable (role_of initializer.name) names known) initializer ≡ true =
         ap (λ ss. function_fits ss initializer) calls ∙ straight_fits sigs Initializer initializer is_initializer refl initialization.straight in
-        let one = and_from (agrees (first ∷ sigs) s) (function_fits (callable (role_of initializer.name) names (first ∷ sigs)) initializer) same fits in
-        and_from (agrees (first ∷ sigs) s && function_fits (callable (role_of initializer.name) names (first ∷ sigs)) initializer) true one refl
+        let one = and_from (agrees (first ∷ sigs) s) (function_fits (callable (role_of initializer.name) names known) initializer) same fits in
+        and_from (agrees (first ∷ sigs) s && function_fits (callable (role_of initializer.name) names known) initializer) true one refl
 
     -- they fit behind declarations and definitions of functions, where all of these may be called
     pub last_fit : (names : List Name) → callable Initializer names sigs ≡ sigs → items_fit names sigs last_items ≡ true
     last_fit names all =
         let s = signature_of (defined maker) in
         let same : agrees sigs s ≡ true = agrees_alone (maker_name m.name) ds s (function_not_maker m.name) made.named in
-        let calls = callable (role_of maker.name) names sigs in
+        let calls = callable (role_of maker.name) names (s ∷ sigs) in
         let one = and_from (agrees sigs s) (function_fits calls maker) same (straight_fits calls Maker maker is_maker refl (empty_straight calls (maker_name m.name) maker made)) in
         and_from (agrees sigs s && function_fits calls maker) (items_fit names (s ∷ sigs) (defined initializer ∷ [])) one (initializer_fits names all)

@@ -15,7 +15,7 @@ use Rattle.c_tree.specs.Code.{Fun, Item, defined}
 use Rattle.c_tree.specs.Functions.{fun_of, item_of, items_of}
 use Rattle.c_tree.specs.Names.{function_name, maker_name}
 use Rattle.c_tree.specs.Spelling.{NamedItems}
-use Rattle.c_meaning.specs.Checked.{Signature, signature_of, Role, Initializer, Function, role_of, function_fits, may_call, callable, agrees, items_fit, defined_names}
+use Rattle.c_meaning.specs.Plain.{Signature, signature_of, Role, Initializer, Function, role_of, head_fits, function_fits, may_call, callable, agrees, items_fit, defined_names}
 use Rattle.plan_rules.specs.Translation.{Name, c_name_of, IsEmpty, TrFunctions, callees, AreDeclared, outside_of, is_sound_with, Translated}
 use Rattle.code_gen.specs.declared.callees.OwnFunction.{OwnFunction}
 use Rattle.code_gen.specs.Callees.{function_of}
@@ -25,7 +25,7 @@ use Rattle.code_gen.proofs.Declared.{Has, Within, has_before, has_turned, contai
 use Rattle.code_gen.proofs.Straight.{last_items, last_named, last_translated, last_spelled, last_fit}
 use Rattle.code_gen.proofs.OwnFunctions.{own_more}
 use Rattle.code_gen.proofs.Functions.{Fits, function_fits_module}
-use Rattle.plan_rules.proofs.NameKinds.{last_names}
+use Rattle.plan_rules.proofs.NameKinds.{function_role, last_names}
 
 -- Functions are added -----------------------------------------------------------------------
 
@@ -140,19 +140,27 @@ module _ (m : ModuleTree) (w : IsWellFormed m) (maker initializer : Fun) (made :
   declared_fit (c ∷ cs) ds rest some within end =
       let here = some c (inl refl) in
       let others = declared_fit cs (c ∷ ds) rest (λ h j. some h (inr j)) (with_one (callees m) ds c here within) end in
-      let first : (agrees (signatures ds) (signature c) && true) ≡ true = and_from (agrees (signatures ds) (signature c)) true (agrees_here c ds here within) refl in
-      and_from (agrees (signatures ds) (signature c) && true) (items_fit names (signature c ∷ signatures ds) (map declaration cs ++ rest)) first others
+      let s = signature c in
+      let head = head_fits (role_of s.name) s.result s.params in
+      let head_is : head ≡ true = ap (λ r. head_fits r s.result s.params) (function_role c.module_name c.name) in
+      let first : (agrees (signatures ds) s && head) ≡ true = and_from (agrees (signatures ds) s) head (agrees_here c ds here within) head_is in
+      and_from (agrees (signatures ds) s && head) (items_fit names (s ∷ signatures ds) (map declaration cs ++ rest)) first others
 
-  defined_one : (f : FunctionTree) (ds : List Callee) (g : Fun) (rest : List Item) → Has f m.functions → Within ds (callees m) → Fits m (signatures ds) f g
-      → items_fit names (signature (own_callee m.name f) ∷ signatures ds) rest ≡ true → items_fit names (signatures ds) (defined g ∷ rest) ≡ true
+  -- a definition fits where its own function may be called too
+  defined_one : (f : FunctionTree) (ds : List Callee) (g : Fun) (rest : List Item) → Has f m.functions → Within ds (callees m) → Fits m (signatures (own_callee m.name f ∷ ds)) f g
+      → items_fit names (signatures (own_callee m.name f ∷ ds)) rest ≡ true → items_fit names (signatures ds) (defined g ∷ rest) ≡ true
   defined_one f ds g rest here within one others =
+      let c = own_callee m.name f in
       let s = signature_of (defined g) in
-      let may : function_fits (callable (role_of g.name) names (signatures ds)) g ≡ true =
-      ap (λ r. function_fits (callable r names (signatures ds)) g) one.role ∙ ap (λ sigs. function_fits sigs g) (callable_here Function refl ds within) ∙ one.fits in
-      let same : agrees (signatures ds) s ≡ true = ap (agrees (signatures ds)) one.signature_is ∙ agrees_here (own_callee m.name f) ds (own f here) within in
+      let all = c ∷ ds in
+      let calls : callable (role_of g.name) names (s ∷ signatures ds) ≡ signatures all =
+      ap (λ r. callable r names (s ∷ signatures ds)) one.role ∙ ap (λ t. callable Function names (t ∷ signatures ds)) one.signature_is
+      ∙ callable_here Function refl all (with_one (callees m) ds c (own f here) within) in
+      let may : function_fits (callable (role_of g.name) names (s ∷ signatures ds)) g ≡ true = ap (λ sigs. function_fits sigs g) calls ∙ one.fits in
+      let same : agrees (signatures ds) s ≡ true = ap (agrees (signatures ds)) one.signature_is ∙ agrees_here c ds (own f here) within in
       let end : items_fit names (s ∷ signatures ds) rest ≡ true = subst (λ t. items_fit names (t ∷ signatures ds) rest ≡ true) (sym one.signature_is) others in
-      and_from (agrees (signatures ds) s && function_fits (callable (role_of g.name) names (signatures ds)) g) (items_fit names (s ∷ signatures ds) rest)
-      (and_from (agrees (signatures ds) s) (function_fits (callable (role_of g.name) names (signatures ds)) g) same may) end
+      and_from (agrees (signatures ds) s && function_fits (callable (role_of g.name) names (s ∷ signatures ds)) g) (items_fit names (s ∷ signatures ds) rest)
+      (and_from (agrees (signatures ds) s) (function_fits (callable (role_of g.name) names (s ∷ signatures ds)) g) same may) end
 
   defined_fit : (fs : List FunctionTree) (ds : List Callee) (gs : List Fun) → Within fs m.functions → Within ds (callees m) → Within (callees m) ds → AreFunctionsOf m fs gs
       → items_fit names (signatures ds) (map defined gs ++ last) ≡ true
@@ -161,9 +169,11 @@ module _ (m : ModuleTree) (w : IsWellFormed m) (maker initializer : Fun) (made :
   defined_fit (f ∷ fs) ds [] some within covers all = absurd all
   defined_fit (f ∷ fs) ds (g ∷ gs) some within covers all =
       let here = some f (inl refl) in
-      let one = function_fits_module m w ds f g within covers (is_function m m.functions f w.functions here) all.0 in
-      defined_one f ds g (map defined gs ++ last) here within one
-      (defined_fit fs (own_callee m.name f ∷ ds) gs (λ h j. some h (inr j)) (with_one (callees m) ds (own_callee m.name f) (own f here) within) (λ h j. inr (covers h j)) all.1)
+      let more = own_callee m.name f ∷ ds in
+      let more_within = with_one (callees m) ds (own_callee m.name f) (own f here) within in
+      let more_covers : Within (callees m) more = λ h j. inr (covers h j) in
+      let one = function_fits_module m w more f g more_within more_covers (is_function m m.functions f w.functions here) all.0 in
+      defined_one f ds g (map defined gs ++ last) here within one (defined_fit fs more gs (λ h j. some h (inr j)) more_within more_covers all.1)
 
   declared_names : (cs : List Callee) (rest : List Item) → defined_names (map declaration cs ++ rest) ≡ defined_names rest
   declared_names [] rest = refl

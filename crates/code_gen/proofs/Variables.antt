@@ -11,7 +11,7 @@ use Rattle.c_tree.specs.declared.tree.CVar.{CVar}
 use Rattle.c_tree.specs.Names.{local_name, is_local_name}
 use Rattle.c_tree.specs.Spelling.{NamedVars}
 use Rattle.c_tree.proofs.NameShapes.{local_name_injective, is_local_name-local_name}
-use Rattle.c_meaning.specs.Checked.{same_type, is_typed, variable_named}
+use Rattle.c_meaning.specs.Plain.{same_type, is_typed, variable_named}
 use Rattle.plan_rules.specs.Translation.{Name, IsLocal}
 use Rattle.plan_rules.proofs.NameKinds.{other_name}
 use Rattle.code_gen.specs.Emission.{AreCounted, AreLocals}

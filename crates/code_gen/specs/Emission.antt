@@ -8,7 +8,7 @@ use Rattle.built_table.specs.Table.{params_of, is_parameter_type}
 use Rattle.core_tree.specs.declared.tree.VarId.{VarId}
 use Rattle.core_tree.specs.declared.tree.GlobalRef.{GlobalRef}
 use Rattle.core_tree.specs.Tree.{Tree, Trees, FunctionTree, ModuleTree, Callee, own_callee, callee_of}
-use Rattle.c_tree.specs.declared.op.Op.TheVariants.{Primitive as Does}
+use Rattle.c_tree.specs.Operations.{primitive_op}
 use Rattle.c_tree.specs.declared.tree.CTy.TheVariants as c_ty
 use Rattle.c_tree.specs.declared.tree.CAtom.TheVariants.{Unspec}
 use Rattle.c_tree.specs.declared.tree.CArg.{CArg}
@@ -182,7 +182,7 @@ pub record IsReady (w : Setting) (s t : Emitter) (types : List Ty) (ns : Trees) 
 
 pub record IsPrimitiveCall (w : Setting) (s t : Emitter) (p : Builtin) (ns : Trees) (call : CCall) : Type 0 where
   pub args : List CArg
-  pub is : call ≡ operation (Does p) args
+  pub is : call ≡ operation (primitive_op p) args
   pub ready : IsReady w s t (params_of p) ns args
 
 pub record IsCounted (w : Setting) (s t : Emitter) (f : Callee) (ns : Trees) (call : CCall) : Type 0 where

@@ -31,7 +31,7 @@ pub fn primitive_call(
 {
     let args = ready(ctx, e, Wanted::Of(p), nodes)?;
     Ok(CCall {
-        callee: Callee::Op(Op::Primitive(p)),
+        callee: Callee::Op(Op::Primitive(p.in_table())),
         args,
     })
 }

@@ -5,6 +5,7 @@ use Rattle.std.proofs.lemmas.Bool.Decides.{nat_tests}
 use Rattle.std.proofs.lemmas.List.{append_assoc, map-append, map-set, length-set, length-map}
 use Rattle.std.proofs.lemmas.Iterator.Adapters.{position_from-zero}
 use Rattle.std.specs.List.{position_from}
+use Rattle.scheme_data.specs.Symbols.{IsSymbol}
 use Rattle.core_tree.specs.Tree.{Callee}
 use Rattle.std.specs.List.{cons_option}
 use Rattle.std.specs.Option.{is_some}
@@ -148,7 +149,7 @@ pub finding_starts : (os : List ObjectTree) → has_one_main os ≡ true → All
 finding_starts os one writable = record { root = sym (position_from-zero is_some (map (λ o. o.main) os)); one = counted (length (filter has_main os)) one; writable = writable }
 
 pub main_found : (os left : List ObjectTree) (place : ℕ) (o : ObjectTree) (name function : List ℕ) → slice_get os place ≡ Some o → o.main ≡ Some name → function ≡ function_name o.module_name name
-    → (0 < length o.module_name → 0 < length name → IsTrue (is_function_name function)) → Finding os place (o ∷ left) → IsMain os place function
+    → (IsSymbol o.module_name → IsSymbol name → IsTrue (is_function_name function)) → Finding os place (o ∷ left) → IsMain os place function
 main_found os left place o name function at main is named f = record {
   is_root = sym f.root ∙ ap (λ (m : Option (List ℕ)). cond (is_some m) (Some place) (position_from is_some (place + 1) (map (λ p. p.main) left))) main;
   object = o;
@@ -156,12 +157,12 @@ main_found os left place o name function at main is named f = record {
   name = name;
   main = main;
   is_function = is;
-  named = named f.writable.0.header.module_name.some (some_of o.main name f.writable.0.header.main main);
+  named = named f.writable.0.header.module_name (name_of o.main name f.writable.0.header.main main);
 }
   where
-    some_of : (m : Option (List ℕ)) (x : List ℕ) → IsMainName m → m ≡ Some x → 0 < length x
-    some_of None x h e = absurd (cc)
-    some_of (Some y) x h e = let same : y ≡ x = cc in subst (λ (z : List ℕ). 0 < length z) same h.some
+    name_of : (m : Option (List ℕ)) (x : List ℕ) → IsMainName m → m ≡ Some x → IsSymbol x
+    name_of None x h e = absurd (cc)
+    name_of (Some y) x h e = let same : y ≡ x = cc in subst IsSymbol same h
 
 -- The count ---------------------------------------------------------------------------------
 
@@ -173,11 +174,11 @@ pub record Counting (objects : List Indexed) (count place : ℕ) (left : List In
 -- In the code -------------------------------------------------------------------------------
 
 pub main_at : (objects : List Indexed) (place : ℕ) (o : Indexed) (name in_module in_name function : List ℕ) → place < length objects → o ≡ get_or objects place o → o.object.main ≡ Some name → in_module ≡ o.object.module_name → in_name ≡ name
-    → function ≡ function_name in_module in_name → (0 < length in_module → 0 < length in_name → IsTrue (is_function_name function)) → Finding (trees objects) place (trees (drop place objects)) → IsMain (trees objects) place function
+    → function ≡ function_name in_module in_name → (IsSymbol in_module → IsSymbol in_name → IsTrue (is_function_name function)) → Finding (trees objects) place (trees (drop place objects)) → IsMain (trees objects) place function
 main_at objects place o name in_module in_name function below at main a b is named f =
     main_found (trees objects) (trees (drop (suc place) objects)) place (tree_of o) name function
     (object_there objects place o below at) main (is ∙ ap₂ function_name a b)
-    (λ h k. named (subst (λ (x : List ℕ). 0 < length x) (sym a) h) (subst (λ (x : List ℕ). 0 < length x) (sym b) k))
+    (λ h k. named (subst IsSymbol (sym a) h) (subst IsSymbol (sym b) k))
     (subst (λ (left : List ObjectTree). Finding (trees objects) place left) (ap trees (drop-cons objects place o below ∙ ap (λ (x : Indexed). x ∷ drop (suc place) objects) (sym at))) f)
 
 pub unit_taken : (before : List ObjectTree) (order : List ℕ) (k n : ℕ) (units more : List NamedUnit) (unit : NamedUnit) (now : List Indexed) (old new : Indexed)

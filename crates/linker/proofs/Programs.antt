@@ -8,7 +8,7 @@ use Rattle.c_tree.specs.declared.pieces.Piece.TheVariants as piece
 use Rattle.c_tree.proofs.CNames.{named_maker, named_initializer}
 use Rattle.c_tree.specs.Code.{Code, done, Item}
 use Rattle.c_tree.specs.Functions.{item_of, items_of}
-use Rattle.c_tree.specs.Names.{is_function_name, is_local_name, maker_name, initializer_name}
+use Rattle.c_tree.specs.Names.{is_module_function, is_entry_name, is_maker_name, is_initializer_name, is_function_name, is_local_name, is_variable_name, maker_name, initializer_name}
 use Rattle.c_tree.specs.Pieces.{pieces}
 use Rattle.c_tree.specs.Spelling.{NamedItem, NamedItems, NamedCode}
 use Rattle.std.specs.List.{cons_option}
@@ -38,7 +38,7 @@ named_calls [] rest are h = h
 named_calls (name ∷ names) rest are h = ((are.0, tt), named_calls names rest are.1 h)
 
 named_run : (f : List ℕ) → IsTrue (is_function_name f) → NamedCode (call_main f)
-unfolding is_local_name
+unfolding is_local_name is_variable_name
 named_run f h = (refl, (tt, tt), (refl, (h, (refl, tt)), ((tt, (refl, tt)), tt)))
 
 named_makers : (ps : List Part) → AllAre NamedPart ps → AllAre NamedFunction (map maker_name (map (λ p. p.module_name) ps))
@@ -50,7 +50,7 @@ named_initializers [] are = tt
 named_initializers (p ∷ ps) are = (named_initializer p.module_name are.0.module_name, named_initializers ps are.1)
 
 main_named : (ms : List (List ℕ)) (f : List ℕ) → NamedCode (main_code ms f) → NamedItem (main_function ms f)
-unfolding is_function_name is_local_name
+unfolding is_module_function is_entry_name is_maker_name is_initializer_name is_function_name is_local_name
 main_named ms f h = (refl, tt, (refl, (refl, tt)), h)
 
 pub joined_named : (ps : List Part) (f : List ℕ) → AllAre NamedPart ps → IsTrue (is_function_name f) → NamedItems (joined_with ps f)

@@ -72,7 +72,7 @@ pub fn read_object(alloc: Global, b: &[u8]) -> Result<Object, ObjectErr>
             main: header.main,
             unit,
         }),
-        Err(CReadErr::NotC) => Err(ObjectErr::NotObject),
+        Err(CReadErr::NotC(_)) => Err(ObjectErr::NotObject),
         Err(CReadErr::Memory) => Err(ObjectErr::Memory),
     }
 }

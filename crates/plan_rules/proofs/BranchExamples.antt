@@ -6,14 +6,15 @@ use Rattle.scheme_data.specs.Decimal.{decimal_text}
 use Rattle.built_table.specs.declared.primitives.Ty.TheVariants as ty
 use Rattle.built_table.specs.declared.primitives.Primitive.TheVariants.{Display, Newline}
 use Rattle.core_tree.specs.Tree.{Tree, If, Sequence, none, more, FunctionTree, ModuleTree}
-use Rattle.c_tree.specs.declared.op.Op.TheVariants.{UnboxLong, Truth, Primitive as Does}
+use Rattle.c_tree.specs.declared.op.Op.TheVariants.{UnboxLong, Truth}
+use Rattle.c_tree.specs.Operations.{primitive_op}
 use Rattle.c_tree.specs.declared.tree.CTy.TheVariants.{Obj, Long, Int}
 use Rattle.c_tree.specs.declared.tree.CAtom.TheVariants as atom
 use Rattle.c_tree.specs.declared.tree.CExpr.{CExpr}
 use Rattle.c_tree.specs.declared.tree.CExpr.TheVariants as expr
 use Rattle.c_tree.specs.declared.tree.CVar.{CVar}
 use Rattle.c_tree.specs.Code.{Code, done, assign, call, return, test, Item, declared, defined}
-use Rattle.c_tree.specs.Names.{function_name, maker_name, initializer_name, is_function_name, is_local_name, is_label_name}
+use Rattle.c_tree.specs.Names.{function_name, maker_name, initializer_name, unmangled, is_module_function, is_maker_name, is_initializer_name, is_function_name, is_local_name, is_variable_name, is_label_name}
 use Rattle.c_meaning.specs.Program.{cm}
 use Rattle.plan_rules.specs.Joined.{joined}
 use Rattle.plan_rules.specs.Representation.{raise_type, operation, local}
@@ -40,7 +41,7 @@ abbrev argument_code : Code
 argument_code = assign x1 (a_local x0) (test (is_word_true x1) (assign x2 (a_word 1) done) (assign x2 (a_word 2) done) sum_code)
 
 branch_as_argument : Translated (hello argument_body) (unit argument_locals argument_code)
-unfolding Tr TrUnused TrAllUnused TrLast TrArguments is_sound_with function_name maker_name initializer_name is_function_name is_local_name is_label_name
+unfolding Tr TrUnused TrAllUnused TrLast TrArguments is_sound_with function_name maker_name initializer_name unmangled is_module_function is_maker_name is_initializer_name is_function_name is_local_name is_variable_name is_label_name
 branch_as_argument = translated_so (boxed_so x5 refl (refl, first_unboxed x2 x3 x4 _ refl refl (refl, branch_so x1 _ _ refl (refl, refl) refl refl) refl)) (search rules) refl
 
 -- It is the function's result, and each block returns. The test is `<`, an int itself; the first block boxes a number, the second gives a constant
@@ -57,7 +58,7 @@ abbrev result_code : Code
 result_code = assign x1 (a_number 2) (assign x2 (a_number 3) (assign x3 (is_less x1 x2) (test (a_local x3) result_first (return (expr.Atom atom.False) done) done)))
 
 branch_result : Translated (hello result_body) (unit result_locals result_code)
-unfolding Tr TrUnused TrAllUnused TrLast TrArguments is_sound_with function_name maker_name initializer_name is_function_name is_local_name is_label_name
+unfolding Tr TrUnused TrAllUnused TrLast TrArguments is_sound_with function_name maker_name initializer_name unmangled is_module_function is_maker_name is_initializer_name is_function_name is_local_name is_variable_name is_label_name
 branch_result = translated_so (refl, branch_so x3 _ _ refl (refl, two_kept x1 x2 _ refl refl refl) (boxed_so x4 refl (refl, two_kept x1 x2 _ refl refl refl)) refl) (search rules) refl
 
 -- Nobody takes it: a block is a sequence, and a block of a constant is empty. The test is a constant, as an int
@@ -65,10 +66,10 @@ abbrev unused_body : Tree
 unused_body = Sequence (more (If (truth true) (Sequence (more line_end (more (int 5) none))) (int 1)) (more (int 0) none))
 
 abbrev unused_code : Code
-unused_code = assign x1 (a_number 1) (test (a_local x1) (call (operation (Does Newline) []) done) done (return (a_word 0) done))
+unused_code = assign x1 (a_number 1) (test (a_local x1) (call (operation (primitive_op Newline) []) done) done (return (a_word 0) done))
 
 branch_unused : Translated (hello unused_body) (unit (var Int x1 ∷ []) unused_code)
-unfolding Tr TrUnused TrAllUnused TrLast TrArguments is_sound_with function_name maker_name initializer_name is_function_name is_local_name is_label_name
+unfolding Tr TrUnused TrAllUnused TrLast TrArguments is_sound_with function_name maker_name initializer_name unmangled is_module_function is_maker_name is_initializer_name is_function_name is_local_name is_variable_name is_label_name
 branch_unused = translated_so (then_so _ (branch_so x1 _ _ refl refl (then_so _ (none_so refl) (then_so _ refl refl)) refl) refl) (search rules) refl
 
 -- How the test comes ------------------------------------------------------------------------
@@ -81,7 +82,7 @@ abbrev number_code : Code
 number_code = assign x1 (a_number 0) (test (a_number 1) (return (a_word 7) done) (return (a_word 8) done) done)
 
 number_test : Translated (hello number_body) (unit (var Long x1 ∷ []) number_code)
-unfolding Tr TrUnused TrAllUnused TrLast TrArguments is_sound_with function_name maker_name initializer_name is_function_name is_local_name is_label_name
+unfolding Tr TrUnused TrAllUnused TrLast TrArguments is_sound_with function_name maker_name initializer_name unmangled is_module_function is_maker_name is_initializer_name is_function_name is_local_name is_variable_name is_label_name
 number_test = translated_so (refl, branch_so x1 _ _ refl refl refl refl) (search rules) refl
 
 -- From an `if`, as a word. A block that is an `if` returns from both of its blocks
@@ -98,17 +99,17 @@ nested_code =
     (test (is_word_true x2) (return (a_word 1) done) inner_code done))
 
 nested_branches : Translated (hello nested_body) (unit (var Obj x1 ∷ var Obj x2 ∷ var Int x3 ∷ []) nested_code)
-unfolding Tr TrUnused TrAllUnused TrLast TrArguments is_sound_with function_name maker_name initializer_name is_function_name is_local_name is_label_name
+unfolding Tr TrUnused TrAllUnused TrLast TrArguments is_sound_with function_name maker_name initializer_name unmangled is_module_function is_maker_name is_initializer_name is_function_name is_local_name is_variable_name is_label_name
 nested_branches = translated_so (refl, branch_so x2 _ _ refl (refl, branch_so x1 _ _ refl (refl, refl) refl refl) refl (refl, branch_so x3 _ _ refl refl refl refl)) (search rules) refl
 
 -- Where truth values go ---------------------------------------------------------------------
 
 -- A constant, as a word
 abbrev constant_code : Code
-constant_code = assign x1 (expr.Atom atom.True) (return (calls (Does Display) (local x1 ∷ [])) done)
+constant_code = assign x1 (expr.Atom atom.True) (return (calls (primitive_op Display) (local x1 ∷ [])) done)
 
 truth_shown : Translated (hello (shown (truth true))) (unit (var Obj x1 ∷ []) constant_code)
-unfolding Tr TrUnused TrAllUnused TrLast TrArguments is_sound_with function_name maker_name initializer_name is_function_name is_local_name is_label_name
+unfolding Tr TrUnused TrAllUnused TrLast TrArguments is_sound_with function_name maker_name initializer_name unmangled is_module_function is_maker_name is_initializer_name is_function_name is_local_name is_variable_name is_label_name
 truth_shown = translated_so (refl, one_kept x1 refl refl) (search rules) refl
 
 -- What `<` gives is boxed for an argument
@@ -116,10 +117,10 @@ abbrev order_locals : List CVar
 order_locals = var Long x1 ∷ var Long x2 ∷ var Int x3 ∷ var Obj x4 ∷ []
 
 abbrev order_code : Code
-order_code = assign x1 (a_number 1) (assign x2 (a_number 2) (assign x3 (is_less x1 x2) (assign x4 (boxed_truth x3) (return (calls (Does Display) (local x4 ∷ [])) done))))
+order_code = assign x1 (a_number 1) (assign x2 (a_number 2) (assign x3 (is_less x1 x2) (assign x4 (boxed_truth x3) (return (calls (primitive_op Display) (local x4 ∷ [])) done))))
 
 order_shown : Translated (hello (shown (less_of (int 1) (int 2)))) (unit order_locals order_code)
-unfolding Tr TrUnused TrAllUnused TrLast TrArguments is_sound_with function_name maker_name initializer_name is_function_name is_local_name is_label_name
+unfolding Tr TrUnused TrAllUnused TrLast TrArguments is_sound_with function_name maker_name initializer_name unmangled is_module_function is_maker_name is_initializer_name is_function_name is_local_name is_variable_name is_label_name
 order_shown = translated_so (refl, one_so x3 x4 _ refl (refl, two_kept x1 x2 _ refl refl refl) (made_so refl)) (search rules) refl
 
 -- and for the function's result
@@ -127,7 +128,7 @@ abbrev order_result_code : Code
 order_result_code = assign x1 (a_number 1) (assign x2 (a_number 2) (assign x3 (is_less x1 x2) (return (boxed_truth x3) done)))
 
 order_result : Translated (hello (less_of (int 1) (int 2))) (unit order_locals order_result_code)
-unfolding Tr TrUnused TrAllUnused TrLast TrArguments is_sound_with function_name maker_name initializer_name is_function_name is_local_name is_label_name
+unfolding Tr TrUnused TrAllUnused TrLast TrArguments is_sound_with function_name maker_name initializer_name unmangled is_module_function is_maker_name is_initializer_name is_function_name is_local_name is_variable_name is_label_name
 order_result = translated_so (boxed_so x3 refl (refl, two_kept x1 x2 _ refl refl refl)) (search rules) refl
 
 -- Where a number is wanted of one, the error of a wrong type is raised, and a number stands in its place
@@ -141,7 +142,7 @@ abbrev refused_code : Code
 refused_code = assign x1 (a_number 1) (assign x2 (a_number 1) (call (raise_type ty.Long) (assign x3 (a_number 0) (assign x4 (plus x1 x3) (return (boxed x4) done)))))
 
 truth_refused : Translated (hello refused_body) (unit refused_locals refused_code)
-unfolding Tr TrUnused TrAllUnused TrLast TrArguments is_sound_with function_name maker_name initializer_name is_function_name is_local_name is_label_name
+unfolding Tr TrUnused TrAllUnused TrLast TrArguments is_sound_with function_name maker_name initializer_name unmangled is_module_function is_maker_name is_initializer_name is_function_name is_local_name is_variable_name is_label_name
 truth_refused = translated_so (boxed_so x4 refl (refl, two_so x1 x2 x1 x3 _ _ _ refl refl refl (refl, refl) (refused_so refl))) (search rules) refl
 
 -- `(define (f n) (if (< n 3) (f (+ n 1)) n))` -----------------------------------------------
@@ -175,7 +176,7 @@ abbrev pub counting_unit : List Item
 counting_unit = declared Obj (function_name (codes "hello") f_name) (Obj ∷ []) ∷ defined (one_word f_name counting_locals counting_code) ∷ unit (var Obj x1 ∷ []) start_code
 
 pub calls_in_a_block : Translated counting counting_unit
-unfolding Tr TrUnused TrAllUnused TrLast TrArguments is_sound_with function_name maker_name initializer_name is_function_name is_local_name is_label_name
+unfolding Tr TrUnused TrAllUnused TrLast TrArguments is_sound_with function_name maker_name initializer_name unmangled is_module_function is_maker_name is_initializer_name is_function_name is_local_name is_variable_name is_label_name
 calls_in_a_block = recursive_so (refl, branch_so x4 _ _ refl (refl, first_unboxed x1 x2 x3 _ refl refl (refl, refl) refl) (refl, one_so x5 x6 _ refl (refl, first_unboxed x1 x2 x3 _ refl refl (refl, refl) refl) (made_so refl)) (refl, refl)) (refl, one_kept x1 refl refl) (search rules) refl
 
 -- Linked programs ---------------------------------------------------------------------------

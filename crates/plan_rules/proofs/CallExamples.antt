@@ -5,11 +5,11 @@ use Rattle.base_io.specs.declared.end.End.TheVariants.{Ended, Raised, Spent}
 use Rattle.scheme_data.specs.Decimal.{decimal_text}
 use Rattle.built_table.specs.declared.primitives.Primitive.TheVariants.{Display}
 use Rattle.core_tree.specs.Tree.{Tree, Sequence, none, more, FunctionTree, ModuleTree}
-use Rattle.c_tree.specs.declared.op.Op.TheVariants.{Primitive as Does}
+use Rattle.c_tree.specs.Operations.{primitive_op}
 use Rattle.c_tree.specs.declared.tree.CTy.TheVariants.{Obj, Long}
 use Rattle.c_tree.specs.declared.tree.CVar.{CVar}
 use Rattle.c_tree.specs.Code.{Code, done, assign, call, return, Item, declared, defined}
-use Rattle.c_tree.specs.Names.{function_name, maker_name, initializer_name, is_function_name, is_local_name, is_label_name}
+use Rattle.c_tree.specs.Names.{function_name, maker_name, initializer_name, unmangled, is_module_function, is_maker_name, is_initializer_name, is_function_name, is_local_name, is_variable_name, is_label_name}
 use Rattle.c_tree.specs.Spelling.{NamedItems}
 use Rattle.c_meaning.specs.Program.{cm}
 use Rattle.plan_rules.specs.Joined.{joined}
@@ -41,15 +41,15 @@ abbrev tail_code : Code
 tail_code = assign x1 (a_word 7) (return (calls_function f_name (local x1 ∷ [])) done)
 
 call_result : Translated (calling (f_of (int 7))) (units (var Obj x1 ∷ []) tail_code)
-unfolding Tr TrUnused TrAllUnused TrLast TrArguments is_sound_with function_name maker_name initializer_name is_function_name is_local_name is_label_name
+unfolding Tr TrUnused TrAllUnused TrLast TrArguments is_sound_with function_name maker_name initializer_name unmangled is_module_function is_maker_name is_initializer_name is_function_name is_local_name is_variable_name is_label_name
 call_result = calling_so (refl, one_kept x1 refl refl) (search rules) refl
 
 -- Its value goes to a local
 abbrev local_code : Code
-local_code = assign x1 (a_word 7) (assign x2 (calls_function f_name (local x1 ∷ [])) (return (calls (Does Display) (local x2 ∷ [])) done))
+local_code = assign x1 (a_word 7) (assign x2 (calls_function f_name (local x1 ∷ [])) (return (calls (primitive_op Display) (local x2 ∷ [])) done))
 
 call_shown : Translated (calling (shown (f_of (int 7)))) (units (var Obj x1 ∷ var Obj x2 ∷ []) local_code)
-unfolding Tr TrUnused TrAllUnused TrLast TrArguments is_sound_with function_name maker_name initializer_name is_function_name is_local_name is_label_name
+unfolding Tr TrUnused TrAllUnused TrLast TrArguments is_sound_with function_name maker_name initializer_name unmangled is_module_function is_maker_name is_initializer_name is_function_name is_local_name is_variable_name is_label_name
 call_shown = calling_so (refl, one_kept x2 refl (refl, one_kept x1 refl refl)) (search rules) refl
 
 -- Nobody takes its value
@@ -60,7 +60,7 @@ abbrev unused_code : Code
 unused_code = assign x1 (a_local x0) (call (call_of (function_name (codes "hello") f_name) (local x1 ∷ [])) (return (a_word 0) done))
 
 call_unused : Translated (calling unused_call) (units (var Obj x1 ∷ []) unused_code)
-unfolding Tr TrUnused TrAllUnused TrLast TrArguments is_sound_with function_name maker_name initializer_name is_function_name is_local_name is_label_name
+unfolding Tr TrUnused TrAllUnused TrLast TrArguments is_sound_with function_name maker_name initializer_name unmangled is_module_function is_maker_name is_initializer_name is_function_name is_local_name is_variable_name is_label_name
 call_unused = calling_so (then_so _ (one_kept x1 refl (refl, refl)) refl) (search rules) refl
 
 -- Its argument comes as a number, and is boxed
@@ -71,7 +71,7 @@ abbrev boxed_code : Code
 boxed_code = assign x1 (a_number 1) (assign x2 (a_number 2) (assign x3 (plus x1 x2) (assign x4 (boxed x3) (return (calls_function f_name (local x4 ∷ [])) done))))
 
 call_of_sum : Translated (calling (f_of (sum_of (int 1) (int 2)))) (units boxed_locals boxed_code)
-unfolding Tr TrUnused TrAllUnused TrLast TrArguments is_sound_with function_name maker_name initializer_name is_function_name is_local_name is_label_name
+unfolding Tr TrUnused TrAllUnused TrLast TrArguments is_sound_with function_name maker_name initializer_name unmangled is_module_function is_maker_name is_initializer_name is_function_name is_local_name is_variable_name is_label_name
 call_of_sum = calling_so (refl, one_so x3 x4 _ refl (refl, two_kept x1 x2 _ refl refl refl) (made_so refl)) (search rules) refl
 
 -- The wrong number of arguments -------------------------------------------------------------
@@ -84,7 +84,7 @@ abbrev many_code : Code
 many_code = assign x1 (a_word 1) (assign x2 (a_word 2) (call (raise_count 1) done))
 
 too_many : Translated (calling two_words) (units (var Obj x1 ∷ var Obj x2 ∷ []) many_code)
-unfolding Tr TrUnused TrAllUnused TrLast TrArguments is_sound_with function_name maker_name initializer_name is_function_name is_local_name is_label_name
+unfolding Tr TrUnused TrAllUnused TrLast TrArguments is_sound_with function_name maker_name initializer_name unmangled is_module_function is_maker_name is_initializer_name is_function_name is_local_name is_variable_name is_label_name
 too_many = calling_so (refl, miscounted_so (x1 ∷ x2 ∷ []) (held x1 _ refl refl (held x2 _ refl refl (refl, refl)))) (search rules) refl
 
 -- Too few, and nobody takes the value
@@ -95,7 +95,7 @@ abbrev few_code : Code
 few_code = call (raise_count 1) (return (a_word 0) done)
 
 too_few : Translated (calling too_few_parts) (units [] few_code)
-unfolding Tr TrUnused TrAllUnused TrLast TrArguments is_sound_with function_name maker_name initializer_name is_function_name is_local_name is_label_name
+unfolding Tr TrUnused TrAllUnused TrLast TrArguments is_sound_with function_name maker_name initializer_name unmangled is_module_function is_maker_name is_initializer_name is_function_name is_local_name is_variable_name is_label_name
 too_few = calling_so (then_so _ (miscounted_so [] (refl, refl)) refl) (search rules) refl
 
 -- `(define (f n) (display n) (f n))` --------------------------------------------------------
@@ -116,14 +116,14 @@ abbrev again_code : Code
 again_code = assign x2 (a_local x0) (return (calls_function f_name (local x2 ∷ [])) done)
 
 abbrev endless_code : Code
-endless_code = assign x1 (a_local x0) (call (operation (Does Display) (local x1 ∷ [])) again_code)
+endless_code = assign x1 (a_local x0) (call (operation (primitive_op Display) (local x1 ∷ [])) again_code)
 
 -- it is declared before its definition
 abbrev pub endless_unit : List Item
 endless_unit = declared Obj (function_name (codes "hello") f_name) (Obj ∷ []) ∷ defined (one_word f_name (var Obj x1 ∷ var Obj x2 ∷ []) endless_code) ∷ unit (var Obj x1 ∷ []) tail_code
 
 pub calls_itself : Translated endless endless_unit
-unfolding Tr TrUnused TrAllUnused TrLast TrArguments is_sound_with function_name maker_name initializer_name is_function_name is_local_name is_label_name
+unfolding Tr TrUnused TrAllUnused TrLast TrArguments is_sound_with function_name maker_name initializer_name unmangled is_module_function is_maker_name is_initializer_name is_function_name is_local_name is_variable_name is_label_name
 calls_itself = recursive_so (then_so _ (one_kept x1 refl (refl, refl)) (refl, one_kept x2 refl (refl, refl))) (refl, one_kept x1 refl refl) (search rules) refl
 
 -- Linked programs ---------------------------------------------------------------------------

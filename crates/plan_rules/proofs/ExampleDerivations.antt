@@ -14,7 +14,7 @@ use Rattle.c_tree.specs.declared.tree.CAtom.TheVariants as atom
 use Rattle.c_tree.specs.declared.tree.CExpr.TheVariants as expr
 use Rattle.c_tree.specs.declared.tree.CVar.{CVar}
 use Rattle.c_tree.specs.Code.{Code, assign, call, test}
-use Rattle.c_meaning.specs.Checked.{is_typed, variable_named}
+use Rattle.c_meaning.specs.Plain.{is_typed, variable_named}
 use Rattle.plan_rules.specs.declared.rep.Rep.{Rep}
 use Rattle.plan_rules.specs.declared.rep.Rep.TheVariants as rep
 use Rattle.plan_rules.specs.Representation.{rep_of, c_type_of, step, condition, operation, raise_count, raise_type, local}

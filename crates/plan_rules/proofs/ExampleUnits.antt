@@ -8,7 +8,8 @@ use Rattle.core_tree.specs.declared.tree.GlobalRef.TheVariants.{Own}
 use Rattle.core_tree.specs.declared.tree.VarId.{VarId}
 use Rattle.core_tree.specs.Tree.{Tree, Constant, Variable, Sequence, Call, Primitive, Trees, none, more, FunctionTree, ModuleTree, Callee, own_callee}
 use Rattle.c_tree.specs.declared.op.Op.{Op}
-use Rattle.c_tree.specs.declared.op.Op.TheVariants.{BoxLong, BoxBool, Primitive as Does}
+use Rattle.c_tree.specs.declared.op.Op.TheVariants.{BoxLong, BoxBool}
+use Rattle.c_tree.specs.Operations.{primitive_op}
 use Rattle.c_tree.specs.declared.tree.CTy.{CTy}
 use Rattle.c_tree.specs.declared.tree.CTy.TheVariants.{Obj}
 use Rattle.c_tree.specs.declared.tree.CArg.{CArg}
@@ -83,10 +84,10 @@ abbrev pub var : CTy → Name → CVar
 var t x = record { ty = t; name = x }
 
 abbrev pub plus : Name → Name → CExpr
-plus a b = calls (Does Add) (local a ∷ local b ∷ [])
+plus a b = calls (primitive_op Add) (local a ∷ local b ∷ [])
 
 abbrev pub is_less : Name → Name → CExpr
-is_less a b = calls (Does Less) (local a ∷ local b ∷ [])
+is_less a b = calls (primitive_op Less) (local a ∷ local b ∷ [])
 
 abbrev pub boxed : Name → CExpr
 boxed x = calls BoxLong (local x ∷ [])

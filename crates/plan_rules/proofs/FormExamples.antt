@@ -6,11 +6,12 @@ use Rattle.scheme_data.specs.Decimal.{decimal_text}
 use Rattle.built_table.specs.declared.primitives.Primitive.TheVariants.{Display}
 use Rattle.iface_text.specs.Lines.{untyped_row}
 use Rattle.core_tree.specs.Tree.{Tree, If, Trees, none, more, FunctionTree, ModuleTree}
-use Rattle.c_tree.specs.declared.op.Op.TheVariants.{UnboxLong, Primitive as Does}
+use Rattle.c_tree.specs.declared.op.Op.TheVariants.{UnboxLong}
+use Rattle.c_tree.specs.Operations.{primitive_op}
 use Rattle.c_tree.specs.declared.tree.CTy.TheVariants.{Obj, Long, Int}
 use Rattle.c_tree.specs.declared.tree.CVar.{CVar}
 use Rattle.c_tree.specs.Code.{Code, done, assign, call, return, test, Item, defined}
-use Rattle.c_tree.specs.Names.{function_name, maker_name, initializer_name, is_function_name, is_local_name, is_label_name}
+use Rattle.c_tree.specs.Names.{function_name, maker_name, initializer_name, unmangled, is_module_function, is_maker_name, is_initializer_name, is_function_name, is_local_name, is_variable_name, is_label_name}
 use Rattle.c_meaning.specs.Program.{cm}
 use Rattle.plan_rules.specs.Joined.{Part, joined}
 use Rattle.plan_rules.specs.Representation.{operation, local}
@@ -48,19 +49,19 @@ abbrev a_locals : List CVar
 a_locals = var Obj x0 ∷ var Obj x1 ∷ var Obj x2 ∷ var Long x3 ∷ var Long x4 ∷ var Int x5 ∷ var Obj x6 ∷ var Obj x7 ∷ []
 
 abbrev shown_code : Code
-shown_code = assign x6 (a_word 3) (assign x7 (calls_in a_name f_name (local x6 ∷ [])) (call (operation (Does Display) (local x7 ∷ [])) done))
+shown_code = assign x6 (a_word 3) (assign x7 (calls_in a_name f_name (local x6 ∷ [])) (call (operation (primitive_op Display) (local x7 ∷ [])) done))
 
 abbrev branch_code : Code
 branch_code = assign x1 (a_word 0) (assign x2 (calls_in a_name f_name (local x1 ∷ [])) (assign x3 (a_number 2) (assign x4 (calls UnboxLong (local x2 ∷ [])) (assign x5 (is_less x4 x3) (test (a_local x5) shown_code done unspecified)))))
 
 abbrev a_code : Code
-a_code = assign x0 (a_word 1) (call (operation (Does Display) (local x0 ∷ [])) branch_code)
+a_code = assign x0 (a_word 1) (call (operation (primitive_op Display) (local x0 ∷ [])) branch_code)
 
 abbrev pub a_unit : List Item
 a_unit = defined (definition a_name f_name f_locals f_code) ∷ last_items a_name a_locals a_code
 
 pub forms_evaluated : Translated exporting a_unit
-unfolding Tr TrUnused TrAllUnused TrLast TrArguments is_sound_with function_name maker_name initializer_name is_function_name is_local_name is_label_name
+unfolding Tr TrUnused TrAllUnused TrLast TrArguments is_sound_with function_name maker_name initializer_name unmangled is_module_function is_maker_name is_initializer_name is_function_name is_local_name is_variable_name is_label_name
 forms_evaluated = record {
   functions = (
     function_so (boxed_so x4 refl (refl, first_unboxed x1 x2 x3 _ refl refl (refl, refl) refl)),
@@ -87,13 +88,13 @@ importing =
     }
 
 abbrev b_code : Code
-b_code = assign x0 (a_word 2) (assign x1 (calls_in a_name f_name (local x0 ∷ [])) (call (operation (Does Display) (local x1 ∷ [])) unspecified))
+b_code = assign x0 (a_word 2) (assign x1 (calls_in a_name f_name (local x0 ∷ [])) (call (operation (primitive_op Display) (local x1 ∷ [])) unspecified))
 
 abbrev pub b_unit : List Item
 b_unit = f_declared ∷ defined (definition b_name go_name [] (return (a_word 0) done)) ∷ last_items b_name (var Obj x0 ∷ var Obj x1 ∷ []) b_code
 
 pub import_called_by_a_form : Translated importing b_unit
-unfolding Tr TrUnused TrAllUnused TrLast TrArguments is_sound_with function_name maker_name initializer_name is_function_name is_local_name is_label_name
+unfolding Tr TrUnused TrAllUnused TrLast TrArguments is_sound_with function_name maker_name initializer_name unmangled is_module_function is_maker_name is_initializer_name is_function_name is_local_name is_variable_name is_label_name
 import_called_by_a_form = record { functions = (function_so refl, forms_so (then_so _ (one_kept x1 refl (refl, one_kept x0 refl refl)) refl)); declarations = (declared_so (callees importing) 1 f_callee refl, tt); named = search rules; sound = refl }
 
 -- The linked program ------------------------------------------------------------------------

@@ -10,8 +10,8 @@ use Rattle.c_tree.specs.declared.tree.CTy.{CTy}
 use Rattle.c_tree.specs.declared.tree.CTy.TheVariants.{Obj}
 use Rattle.c_tree.specs.declared.tree.CVar.{CVar}
 use Rattle.c_tree.specs.Code.{Code, done, assign, call, return, Item, declared, defined}
-use Rattle.c_tree.specs.Names.{function_name, maker_name, initializer_name, is_function_name, is_local_name, is_label_name}
-use Rattle.c_meaning.specs.Checked.{is_sound}
+use Rattle.c_tree.specs.Names.{function_name, maker_name, initializer_name, unmangled, is_module_function, is_maker_name, is_initializer_name, is_function_name, is_local_name, is_variable_name, is_label_name}
+use Rattle.c_meaning.specs.Plain.{is_sound}
 use Rattle.plan_rules.specs.Representation.{raise_count, local}
 use Rattle.plan_rules.specs.Translation.{Name, Tr, TrUnused, TrAllUnused, TrLast, TrArguments, callees, c_name_of, IsDeclared, outside_of, is_sound_with, Translated}
 use Rattle.std.specs.Cmp.Lexicographic.{bytes_decides}
@@ -76,7 +76,7 @@ abbrev calling_unit : List Item
 calling_unit = f_declared ∷ go_unit (var Obj x1 ∷ []) calling_code
 
 import_called : Translated calling_f calling_unit
-unfolding Tr TrUnused TrAllUnused TrLast TrArguments is_sound_with function_name maker_name initializer_name is_function_name is_local_name is_label_name
+unfolding Tr TrUnused TrAllUnused TrLast TrArguments is_sound_with function_name maker_name initializer_name unmangled is_module_function is_maker_name is_initializer_name is_function_name is_local_name is_variable_name is_label_name
 import_called = record { functions = (function_so (refl, one_kept x1 refl refl), empties_so refl); declarations = (declared_so (callees calling_f) 1 f_callee refl, tt); named = search rules; sound = refl }
 
 -- The name that it calls is defined elsewhere, so that the unit alone breaks a rule of C
@@ -104,7 +104,7 @@ abbrev mixed_unit : List Item
 mixed_unit = defined (definition b_name (codes "h") [] (return (a_local x0) done)) ∷ f_declared ∷ go_unit (var Obj x1 ∷ var Obj x2 ∷ []) mixed_code
 
 both_called : Translated mixed mixed_unit
-unfolding Tr TrUnused TrAllUnused TrLast TrArguments is_sound_with function_name maker_name initializer_name is_function_name is_local_name is_label_name
+unfolding Tr TrUnused TrAllUnused TrLast TrArguments is_sound_with function_name maker_name initializer_name unmangled is_module_function is_maker_name is_initializer_name is_function_name is_local_name is_variable_name is_label_name
 both_called = record {
   functions = (function_so (refl, refl), (function_so (refl, one_kept x2 refl (refl, one_kept x1 refl (refl, refl))), empties_so refl));
   declarations = (declared_so (callees mixed) 2 f_callee refl, tt);
@@ -120,7 +120,7 @@ abbrev miscalling_code : Code
 miscalling_code = call (raise_count 1) (return (a_word 0) done)
 
 import_miscalled : Translated miscalling (f_declared ∷ go_unit [] miscalling_code)
-unfolding Tr TrUnused TrAllUnused TrLast TrArguments is_sound_with function_name maker_name initializer_name is_function_name is_local_name is_label_name
+unfolding Tr TrUnused TrAllUnused TrLast TrArguments is_sound_with function_name maker_name initializer_name unmangled is_module_function is_maker_name is_initializer_name is_function_name is_local_name is_variable_name is_label_name
 import_miscalled = record { functions = (function_so (then_so _ (miscounted_so [] (refl, refl)) refl), empties_so refl); declarations = (declared_so (callees miscalling) 1 f_callee refl, tt); named = search rules; sound = refl }
 
 -- An imported function that is needed and not called ----------------------------------------
@@ -129,7 +129,7 @@ abbrev needing : ModuleTree
 needing = importing (g_name ∷ []) (needed_g ∷ []) [] (int 7)
 
 import_needed : Translated needing (go_unit [] (return (a_word 7) done))
-unfolding Tr TrUnused TrAllUnused TrLast TrArguments is_sound_with function_name maker_name initializer_name is_function_name is_local_name is_label_name
+unfolding Tr TrUnused TrAllUnused TrLast TrArguments is_sound_with function_name maker_name initializer_name unmangled is_module_function is_maker_name is_initializer_name is_function_name is_local_name is_variable_name is_label_name
 import_needed = record { functions = (function_so refl, empties_so refl); declarations = tt; named = search rules; sound = refl }
 
 needed_is_not_callable : callee_of needing (Used 0) ≡ None

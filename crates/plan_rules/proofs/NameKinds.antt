@@ -1,15 +1,13 @@
 -- What a function of a unit is, by its name: a function of the module, its maker or its initialisation. No two modules share a name.
-use Rattle.std.proofs.Common.{◌≡◌, ℕ, Bool, true, false, List, [], ◌∷◌, refl, sym, ap, ◌∙◌}
-use Rattle.std.specs.Prelude.{◌||◌, if◌then◌else◌, IsTrue}
+use Rattle.std.proofs.Common.{◌≡◌, ℕ, true, false, List, [], ◌∷◌, refl, sym, ap, ◌∙◌}
 use Rattle.std.specs.List.{list_any}
 use Rattle.std.specs.Cmp.Lexicographic.{bytes_decides}
 use Rattle.std.proofs.lemmas.Bool.{false_from_ne_true}
 use Rattle.scheme_data.specs.Names.{are_distinct, is_same}
-use Rattle.scheme_data.specs.Symbols.{IsSymbol}
-use Rattle.c_tree.specs.Names.{function_name, maker_name, initializer_name, is_function_name, is_main, is_maker, is_initializer}
-use Rattle.c_meaning.specs.Checked.{Main, Maker, Initializer, Function, role_of, is_called_once}
+use Rattle.c_tree.specs.Names.{function_name, maker_name, initializer_name, is_main, is_maker}
+use Rattle.c_meaning.specs.Plain.{Maker, Initializer, Function, role_of, is_called_once}
 use Rattle.plan_rules.specs.Translation.{Name}
-use Rattle.c_tree.proofs.CNames.{function_name_parts, maker_name_part, initializer_name_part, named_maker, named_initializer}
+use Rattle.c_tree.proofs.CNames.{function_name_parts, maker_name_part, initializer_name_part}
 
 -- Roles -------------------------------------------------------------------------------------
 
@@ -17,45 +15,17 @@ pub function_role : (m n : List ℕ) → role_of (function_name m n) ≡ Functio
 unfolding function_name
 function_role m n = refl
 
-or_false : (b : Bool) → IsTrue (b || false) → b ≡ true
-or_false true e = refl
-or_false false e = absurd (cc)
-
 pub function_not_main : (m n : List ℕ) → is_main (function_name m n) ≡ false
 unfolding function_name
 function_not_main m n = refl
 
--- a name that a function may have is a maker's, if it begins as one
-maker_is : (m : List ℕ) → IsTrue (is_function_name (maker_name m)) → is_maker (maker_name m) ≡ true
-unfolding is_function_name maker_name
-maker_is m named = or_false (is_maker (maker_name m)) named
-
-initializer_is : (m : List ℕ) → IsTrue (is_function_name (initializer_name m)) → is_initializer (initializer_name m) ≡ true
-unfolding is_function_name initializer_name
-initializer_is m named = or_false (is_initializer (initializer_name m)) named
-
-maker_not_main : (m : List ℕ) → is_main (maker_name m) ≡ false
+pub maker_role : (m : List ℕ) → role_of (maker_name m) ≡ Maker
 unfolding maker_name
-maker_not_main m = refl
+maker_role m = refl
 
-initializer_not_main : (m : List ℕ) → is_main (initializer_name m) ≡ false
+pub initializer_role : (m : List ℕ) → role_of (initializer_name m) ≡ Initializer
 unfolding initializer_name
-initializer_not_main m = refl
-
-initializer_not_maker : (m : List ℕ) → is_maker (initializer_name m) ≡ false
-unfolding initializer_name
-initializer_not_maker m = refl
-
-pub maker_role : (m : List ℕ) → IsTrue (is_function_name (maker_name m)) → role_of (maker_name m) ≡ Maker
-maker_role m named =
-    ap (λ b. if b then Main else (if is_maker (maker_name m) then Maker else (if is_initializer (maker_name m) then Initializer else Function))) (maker_not_main m)
-    ∙ ap (λ b. if b then Maker else (if is_initializer (maker_name m) then Initializer else Function)) (maker_is m named)
-
-pub initializer_role : (m : List ℕ) → IsTrue (is_function_name (initializer_name m)) → role_of (initializer_name m) ≡ Initializer
-initializer_role m named =
-    ap (λ b. if b then Main else (if is_maker (initializer_name m) then Maker else (if is_initializer (initializer_name m) then Initializer else Function))) (initializer_not_main m)
-    ∙ ap (λ b. if b then Maker else (if is_initializer (initializer_name m) then Initializer else Function)) (initializer_not_maker m)
-    ∙ ap (λ b. if b then Initializer else Function) (initializer_is m named)
+initializer_role m = refl
 
 -- Names that differ -------------------------------------------------------------------------
 
@@ -88,15 +58,18 @@ other_name a b ne = false_from_ne_true (is_same a b) (λ e. ne ((bytes_decides a
 
 -- Kinds of names ----------------------------------------------------------------------------
 
-pub other_kinds : (m k : Name) → IsSymbol m → maker_name m ≡ initializer_name k → ⊥
-other_kinds m k is e = absurd (let bad : true ≡ false = sym (maker_is m (named_maker m is)) ∙ ap is_maker e ∙ initializer_not_maker k in cc)
+pub other_kinds : (m k : Name) → maker_name m ≡ initializer_name k → ⊥
+unfolding maker_name initializer_name
+other_kinds m k e = absurd (let bad : true ≡ false = ap is_maker e in cc)
 
 -- makers and initialisations are called once, and functions are not
-pub maker_is_once : (m : Name) → IsSymbol m → is_called_once (maker_name m) ≡ true
-maker_is_once m is = ap (λ b. b || is_initializer (maker_name m)) (maker_is m (named_maker m is))
+pub maker_is_once : (m : Name) → is_called_once (maker_name m) ≡ true
+unfolding maker_name
+maker_is_once m = refl
 
-pub initializer_is_once : (m : Name) → IsSymbol m → is_called_once (initializer_name m) ≡ true
-initializer_is_once m is = ap (λ b. b || is_initializer (initializer_name m)) (initializer_not_maker m) ∙ initializer_is m (named_initializer m is)
+pub initializer_is_once : (m : Name) → is_called_once (initializer_name m) ≡ true
+unfolding initializer_name
+initializer_is_once m = refl
 
 pub function_not_once : (m f : Name) → is_called_once (function_name m f) ≡ false
 unfolding function_name
@@ -108,17 +81,17 @@ never_once n m f named once = absurd (let bad : false ≡ true = sym (function_n
 -- The names that a unit defines -------------------------------------------------------------
 
 pub data NameOf (m n : Name) : Type 0 where
-  a_function : (f : Name) → IsSymbol f → n ≡ function_name m f → NameOf m n
+  a_function : (f : Name) → n ≡ function_name m f → NameOf m n
   a_maker : n ≡ maker_name m → NameOf m n
   an_initializer : n ≡ initializer_name m → NameOf m n
 
-pub same_module : (m k n : Name) → IsSymbol m → IsSymbol k → NameOf m n → NameOf k n → m ≡ k
-same_module m k n is_m is_k (a_function f is_f e) (a_function g is_g d) = (function_name_parts m f k g (sym e ∙ d)).0
-same_module m k n is_m is_k (a_maker e) (a_maker d) = maker_name_part m k (sym e ∙ d)
-same_module m k n is_m is_k (an_initializer e) (an_initializer d) = initializer_name_part m k (sym e ∙ d)
-same_module m k n is_m is_k (a_function f is_f e) (a_maker d) = absurd (never_once n m f e (ap is_called_once d ∙ maker_is_once k is_k))
-same_module m k n is_m is_k (a_function f is_f e) (an_initializer d) = absurd (never_once n m f e (ap is_called_once d ∙ initializer_is_once k is_k))
-same_module m k n is_m is_k (a_maker e) (a_function g is_g d) = absurd (never_once n k g d (ap is_called_once e ∙ maker_is_once m is_m))
-same_module m k n is_m is_k (an_initializer e) (a_function g is_g d) = absurd (never_once n k g d (ap is_called_once e ∙ initializer_is_once m is_m))
-same_module m k n is_m is_k (a_maker e) (an_initializer d) = absurd (other_kinds m k is_m (sym e ∙ d))
-same_module m k n is_m is_k (an_initializer e) (a_maker d) = absurd (other_kinds k m is_k (sym d ∙ e))
+pub same_module : (m k n : Name) → NameOf m n → NameOf k n → m ≡ k
+same_module m k n (a_function f e) (a_function g d) = (function_name_parts m f k g (sym e ∙ d)).0
+same_module m k n (a_maker e) (a_maker d) = maker_name_part m k (sym e ∙ d)
+same_module m k n (an_initializer e) (an_initializer d) = initializer_name_part m k (sym e ∙ d)
+same_module m k n (a_function f e) (a_maker d) = absurd (never_once n m f e (ap is_called_once d ∙ maker_is_once k))
+same_module m k n (a_function f e) (an_initializer d) = absurd (never_once n m f e (ap is_called_once d ∙ initializer_is_once k))
+same_module m k n (a_maker e) (a_function g d) = absurd (never_once n k g d (ap is_called_once e ∙ maker_is_once m))
+same_module m k n (an_initializer e) (a_function g d) = absurd (never_once n k g d (ap is_called_once e ∙ initializer_is_once m))
+same_module m k n (a_maker e) (an_initializer d) = absurd (other_kinds m k (sym e ∙ d))
+same_module m k n (an_initializer e) (a_maker d) = absurd (other_kinds k m (sym d ∙ e))

@@ -7,7 +7,8 @@ use Rattle.built_table.specs.declared.primitives.Ty.TheVariants as ty
 use Rattle.built_table.specs.Table.{params_of, result_of}
 use Rattle.core_tree.specs.declared.tree.VarId.{VarId}
 use Rattle.core_tree.specs.Tree.{Tree, Constant, Variable, If, Sequence, Call, Primitive, Trees, none, more, count, FunctionTree, ModuleTree, Callee, own_callee, used_callees, callee_of}
-use Rattle.c_tree.specs.declared.op.Op.TheVariants.{BoxLong, BoxBool, Primitive as Does}
+use Rattle.c_tree.specs.declared.op.Op.TheVariants.{BoxLong, BoxBool}
+use Rattle.c_tree.specs.Operations.{primitive_op}
 use Rattle.c_tree.specs.declared.tree.CTy.{CTy}
 use Rattle.c_tree.specs.declared.tree.CTy.TheVariants as c_ty
 use Rattle.c_tree.specs.declared.tree.CArg.{CArg}
@@ -17,10 +18,10 @@ use Rattle.c_tree.specs.declared.tree.CCall.{CCall}
 use Rattle.c_tree.specs.declared.tree.CExpr.{CExpr}
 use Rattle.c_tree.specs.declared.tree.CExpr.TheVariants as expr
 use Rattle.c_tree.specs.declared.tree.CVar.{CVar}
-use Rattle.c_tree.specs.Code.{Code, done, assign, call, return, test, loop, Fun, Item, declared, defined}
+use Rattle.c_tree.specs.Code.{Code, done, assign, call, return, test, loop, Fun, Item, external, global, declared, defined}
 use Rattle.c_tree.specs.Names.{function_name, maker_name, initializer_name}
 use Rattle.c_tree.specs.Spelling.{NamedItems}
-use Rattle.c_meaning.specs.Checked.{is_typed, variable_named, variables_of, defined_names, items_fit}
+use Rattle.c_meaning.specs.Plain.{is_typed, variable_named, variables_of, defined_names, items_fit}
 use Rattle.plan_rules.specs.declared.rep.Rep.{Rep}
 use Rattle.plan_rules.specs.declared.rep.Rep.TheVariants.{Obj, Long, Bool as Truth_rep}
 use Rattle.plan_rules.specs.Representation.{Slot, PlainAt, Scope, slot_of, rep_of, c_type_of, has_of, operation, raise_count, raise_type, call_of, local, constant_expr, condition, Step, Keep, Make, Refuse, Unbuilt, step}
@@ -217,7 +218,7 @@ module _ (m : ModuleTree) (scope : Scope) (vars : List CVar) where
         × TrCall (callee_of m g) (λ temporaries code middle. TrArguments (objects ns) ns live temporaries code middle) ns live (λ c. deliver target (expr.Call c) rest) code rest
     Tr (Primitive p ns) h live target code rest =
         (h ≡ rep_of (result_of p))
-        × Applied vars (λ temporaries code middle. TrArguments (params_of p) ns live temporaries code middle) (params_of p) (haves scope (params_of p) ns) live (λ args. deliver target (expr.Call (operation (Does p) args)) rest) code
+        × Applied vars (λ temporaries code middle. TrArguments (params_of p) ns live temporaries code middle) (params_of p) (haves scope (params_of p) ns) live (λ args. deliver target (expr.Call (operation (primitive_op p) args)) rest) code
 
     -- nobody takes the node's value
     pub TrUnused : Tree → List Name → Code → Code → Type 0
@@ -230,7 +231,7 @@ module _ (m : ModuleTree) (scope : Scope) (vars : List CVar) where
     TrUnused (Call g ns) live code rest =
         TrCall (callee_of m g) (λ temporaries code middle. TrArguments (objects ns) ns live temporaries code middle) ns live (λ c. call c rest) code rest
     TrUnused (Primitive p ns) live code rest =
-        Applied vars (λ temporaries code middle. TrArguments (params_of p) ns live temporaries code middle) (params_of p) (haves scope (params_of p) ns) live (λ args. call (operation (Does p) args) rest) code
+        Applied vars (λ temporaries code middle. TrArguments (params_of p) ns live temporaries code middle) (params_of p) (haves scope (params_of p) ns) live (λ args. call (operation (primitive_op p) args) rest) code
 
     pub TrAllUnused : Trees → List Name → Code → Code → Type 0
     TrAllUnused none live code rest = code ≡ rest
@@ -278,6 +279,8 @@ pub record IsEmpty (name : Name) (g : Fun) : Type 0 where
 -- declarations alone
 abbrev pub DefineNothing : List Item → Type 0
 DefineNothing [] = Unit {0}
+DefineNothing (external v ∷ is) = ⊥
+DefineNothing (global v ∷ is) = ⊥
 DefineNothing (declared t name params ∷ is) = DefineNothing is
 DefineNothing (defined g ∷ is) = ⊥
 
@@ -290,12 +293,16 @@ pub record TrForms (m : ModuleTree) (g : Fun) : Type 0 where
 
 abbrev pub TrInitializer : ModuleTree → List Item → Type 0
 TrInitializer m [] = ⊥
+TrInitializer m (external v ∷ is) = ⊥
+TrInitializer m (global v ∷ is) = ⊥
 TrInitializer m (declared t name params ∷ is) = TrInitializer m is
 TrInitializer m (defined g ∷ is) = TrForms m g × DefineNothing is
 
--- the definitions, in order: the module's functions, its maker, which has nothing to make as long as functions are no values, and its initialisation. The other items are declarations
+-- the definitions, in order: the module's functions, its maker, which has nothing to make as long as functions are no values, and its initialisation. The other items are declarations of functions
 abbrev pub TrFunctions : ModuleTree → List FunctionTree → List Item → Type 0
 TrFunctions m fs [] = ⊥
+TrFunctions m fs (external v ∷ is) = ⊥
+TrFunctions m fs (global v ∷ is) = ⊥
 TrFunctions m fs (declared t name params ∷ is) = TrFunctions m fs is
 TrFunctions m (f ∷ fs) (defined g ∷ is) = TrFunction m f g × TrFunctions m fs is
 TrFunctions m [] (defined g ∷ is) = IsEmpty (maker_name m.name) g × TrInitializer m is
@@ -316,6 +323,8 @@ pub record IsDeclared (cs : List Callee) (t : CTy) (name : Name) (params : List 
 
 abbrev pub AreDeclared : List Callee → List Item → Type 0
 AreDeclared cs [] = Unit {0}
+AreDeclared cs (external v ∷ is) = ⊥
+AreDeclared cs (global v ∷ is) = ⊥
 AreDeclared cs (declared t name params ∷ is) = IsDeclared cs t name params × AreDeclared cs is
 AreDeclared cs (defined g ∷ is) = AreDeclared cs is
 

@@ -10,7 +10,7 @@ use Rattle.built_table.specs.Table.{params_of, result_of, type_name}
 use Rattle.meaning.specs.Value.{Value, State, Outcome, bind}
 use Rattle.meaning.specs.Value as src
 use Rattle.meaning.specs.Primitives.{act, counted, tested}
-use Rattle.c_tree.specs.declared.op.Op.TheVariants.{Primitive as Does}
+use Rattle.c_tree.specs.Operations.{primitive_op}
 use Rattle.c_tree.specs.declared.tree.CArg.{CArg}
 use Rattle.c_tree.specs.declared.tree.CCall.{CCall}
 use Rattle.c_tree.specs.declared.tree.CExpr.TheVariants as expr
@@ -74,7 +74,7 @@ module _ (vars : List CVar) (p : List Fun) (lower : Lower) where
     pub acts : (world : World) (vs : List Value) (made : List Name) (f : Frame) (s : State) (t : CState) → s.turns ≤ limit → AllArgs vars world f ts vs made → Same world s t → Answered world s r (core vs s) (eval p lower (names vars) (expr.Call (doing (map local made))) f t)
 
   abbrev pub primitive_work : (limit : ℕ) (q : Builtin) → Work limit (params_of q) (rep_of (result_of q))
-  primitive_work limit q = record { core = act q; doing = λ args. operation (Does q) args; acts = λ world vs made f s t low all same. acts_alike q vars world vs made f s t all same }
+  primitive_work limit q = record { core = act q; doing = λ args. operation (primitive_op q) args; acts = λ world vs made f s t low all same. acts_alike q vars world vs made f s t all same }
 
   module _ (limit : ℕ) (ts : List Ty) (r : Rep) (w : Work limit ts r) (to : Option Target) (rest : Code) where
     -- the arguments' number, their types, the work

@@ -12,7 +12,7 @@ use Rattle.c_meaning.specs.Word.{Word}
 use Rattle.c_meaning.specs.State.{Cell, Frame, State as CState, Flow, Answer, blank, answer}
 use Rattle.c_meaning.specs.State as c
 use Rattle.c_meaning.specs.Execution.{Lower, run, exec, again, looped, enter, entry, fun_named, names_of}
-use Rattle.c_meaning.specs.Checked.{variables_of}
+use Rattle.c_meaning.specs.Plain.{variables_of}
 use Rattle.plan_rules.specs.declared.rep.Rep.TheVariants.{Obj}
 use Rattle.plan_rules.specs.Translation.{Name, back, scope_of, c_name_of, TrFunction}
 use Rattle.simulation.proofs.Frames.{names}

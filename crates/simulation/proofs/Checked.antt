@@ -1,8 +1,9 @@
--- The linked program is checked, and its names are right.
+-- The linked program is plain, and its names are right.
 use Rattle.std.proofs.Common.{◌≡◌, List, [], ◌∷◌, ◌++◌, length, Bool, true, false, Some, refl, sym, ap, ◌∙◌, subst, inl, inr}
 use Rattle.std.specs.Prelude.{codes, map, not, replicate, ◌&&◌, ◌||◌, if◌then◌else◌}
 use Rattle.std.specs.List.{list_any, list_all}
 use Rattle.std.proofs.lemmas.Bool.{and_from}
+use Rattle.std.proofs.lemmas.List.{map-append}
 use Rattle.std.proofs.lemmas.List.Folds.{list_any-append, list_all-append}
 use Rattle.scheme_data.specs.Names.{are_distinct, is_same}
 use Rattle.core_tree.specs.Tree.{ModuleTree, Callee}
@@ -10,23 +11,22 @@ use Rattle.core_tree.specs.WellFormed.{AreNames}
 use Rattle.meaning.specs.Procedures.{Procedure, procedure_of}
 use Rattle.meaning.specs.Program.{AreWellFormed, IsProgram}
 use Rattle.c_tree.specs.declared.tree.CTy.TheVariants.{Obj}
-use Rattle.c_tree.specs.Code.{Item, declared, defined}
-use Rattle.c_tree.specs.Names.{maker_name, initializer_name, is_main, is_maker, is_initializer}
+use Rattle.c_tree.specs.Code.{Item, external, global, declared, defined}
+use Rattle.c_tree.specs.Names.{maker_name, initializer_name, is_main}
 use Rattle.c_tree.specs.Spelling.{NamedItems}
-use Rattle.c_meaning.specs.Checked.{Signature, signature_of, same_signature, signature_named, Role, Main, Maker, Initializer, Function, role_of, may_call, callable, item_fits, agrees, items_fit, defined_names, is_called_once, once_in, once_in_main, all_called, calls_each_once, is_sound, is_checked}
+use Rattle.c_meaning.specs.Plain.{Signature, signature_of, same_signature, signature_named, Main, role_of, may_call, callable, item_fits, agrees, items_fit, defined_names, item_names, is_called_once, once_in, once_in_main, all_called, calls_each_once, is_sound, is_plain}
 use Rattle.plan_rules.specs.Joined.{Part, main_function, joined}
 use Rattle.plan_rules.specs.Translation.{Name, c_name_of}
 use Rattle.simulation.specs.Law.{AreTranslated}
 use Rattle.plan_rules.proofs.NameKinds.{function_not_once, never_once, maker_is_once, initializer_is_once}
 use Rattle.c_tree.proofs.CNames.{named_function}
 use Rattle.simulation.proofs.Members.{Has}
-use Rattle.simulation.proofs.Links.{formed_at}
 use Rattle.simulation.proofs.Signatures.{or_later, after, defined_signed, fit_both, defined_both}
 use Rattle.simulation.proofs.Extended.{may_name, callable_found}
-use Rattle.simulation.proofs.Rights.{callee_named, same_procedure, Right, AllRight, ItemsRight, after_right, found_right, right_not_main}
+use Rattle.simulation.proofs.Rights.{callee_named, same_procedure, Right, AllRight, ItemsRight, after_right, found_right, right_not_main, right_may_call}
 use Rattle.simulation.proofs.Distinct.{items_of, distinct_both, distinct_definitions}
 use Rattle.simulation.proofs.Units.{is_defined, defined_first, makers_defined, initializers_defined, callee_defined, units_right, units_fit}
-use Rattle.simulation.proofs.MainItem.{main_named, call_is, word_function, alone_is, lone_function, main_fits, called_in_main, main_once, once_distinct, is_met, units_met}
+use Rattle.simulation.proofs.MainItem.{main_named, call_is, word_function, alone_is, lone_function, main_fits, called_in_main, main_once, once_distinct, name_of, is_met, units_met}
 
 abbrev main_name : Name
 main_name = codes "main"
@@ -87,6 +87,8 @@ joined_named program parts is tr =
 
 none_is_main : (program : List ModuleTree) (items : List Item) → ItemsRight program items → list_any is_main (defined_names items) ≡ false
 none_is_main program [] right = refl
+none_is_main program (external v ∷ is) right = none_is_main program is right.1
+none_is_main program (global v ∷ is) right = ap (λ b. b || list_any is_main (defined_names is)) (right_not_main program (signature_of (global v)) right.0) ∙ none_is_main program is right.1
 none_is_main program (declared t n ps ∷ is) right = none_is_main program is right.1
 none_is_main program (defined g ∷ is) right = ap (λ b. b || list_any is_main (defined_names is)) (right_not_main program (signature_of (defined g)) right.0) ∙ none_is_main program is right.1
 
@@ -101,6 +103,8 @@ apart_from_main (x ∷ xs) e = go (is_main x) (list_any is_main xs) refl e (λ q
 
 none_once : (program : List ModuleTree) (items : List Item) (d : Item) → ItemsRight program items → once_in_main (items ++ d ∷ []) ≡ once_in_main (d ∷ [])
 none_once program [] d right = refl
+none_once program (external v ∷ is) d right = none_once program is d right.1
+none_once program (global v ∷ is) d right = none_once program is d right.1
 none_once program (declared t n ps ∷ is) d right = none_once program is d right.1
 none_once program (defined g ∷ is) d right = ap (λ b. if b then once_in g.code else once_in_main (is ++ d ∷ [])) (right_not_main program (signature_of (defined g)) right.0) ∙ none_once program is d right.1
 
@@ -111,18 +115,6 @@ main_agrees program (t ∷ sigs) s right e =
     and_from (not (is_same t.name s.name) || same_signature t s) (agrees sigs s) (ap (λ b. not b || same_signature t s) other) (main_agrees program sigs s right.1 e)
 
 -- Calls in `main` ---------------------------------------------------------------------------
-
--- `main` calls whatever isn't `main`
-main_may_call : (n : Name) → is_main n ≡ false → may_call Main (role_of n) ≡ true
-main_may_call n e = ap (λ b. may_call Main (if b then Main else others)) e ∙ go (is_maker n) (is_initializer n)
-  where
-    others : Role
-    others = if is_maker n then Maker else (if is_initializer n then Initializer else Function)
-
-    go : (a b : Bool) → may_call Main (if a then Maker else (if b then Initializer else Function)) ≡ true
-    go true b = refl
-    go false true = refl
-    go false false = refl
 
 -- The program, its units, and the names that are defined in its text.
 module _ (program : List ModuleTree) (items : List Item) (right : ItemsRight program items) (names : List Name) (among : (n : Name) → is_defined items n ≡ true → list_any (is_same n) names ≡ true) where
@@ -140,8 +132,8 @@ module _ (program : List ModuleTree) (items : List Item) (right : ItemsRight pro
   called n here =
       let h = defined_signed items n here in
       let k = found_right program sigs n h.s (after_right program items [] right tt) h.at in
-      let other : is_main n ≡ false = ap is_main (sym k.named) ∙ right_not_main program h.s k.right in
-      let may : may_name Main names n ≡ true = and_from (may_call Main (role_of n)) (list_any (is_same n) names) (main_may_call n other) (among n here) in
+      let may_be : may_call Main (role_of n) ≡ true = ap (λ x. may_call Main (role_of x)) (sym k.named) ∙ right_may_call program h.s k.right in
+      let may : may_name Main names n ≡ true = and_from (may_call Main (role_of n)) (list_any (is_same n) names) may_be (among n here) in
       record { s = h.s; at = callable_found Main names sigs n may ∙ h.at; named = k.named; right_one = k.right }
 
   once_called : (n : Name) → is_defined items n ≡ true → is_called_once n ≡ true → alone_is (signature_named (callable Main names sigs) n) ≡ true
@@ -193,22 +185,22 @@ module _ (program : List ModuleTree) (parts : List Part) (is_program : IsProgram
   makes : (n : Name) → Has ms n → alone_is (signature_named (callable Main names (after items [])) (maker_name n)) ≡ true
   makes =
       each_name (λ n. alone_is (signature_named (callable Main names (after items [])) (maker_name n)) ≡ true) program
-      (λ m h. once_called program items right names among (maker_name m.name) (makers_defined program parts units m h) (maker_is_once m.name (formed_at program m h is_program.formed).name))
+      (λ m h. once_called program items right names among (maker_name m.name) (makers_defined program parts units m h) (maker_is_once m.name))
 
   initializes : (n : Name) → Has ms n → alone_is (signature_named (callable Main names (after items [])) (initializer_name n)) ≡ true
   initializes =
       each_name (λ n. alone_is (signature_named (callable Main names (after items [])) (initializer_name n)) ≡ true) program
-      (λ m h. once_called program items right names among (initializer_name m.name) (initializers_defined program parts units m h) (initializer_is_once m.name (formed_at program m h is_program.formed).name))
+      (λ m h. once_called program items right names among (initializer_name m.name) (initializers_defined program parts units m h) (initializer_is_once m.name))
 
   fit : items_fit names [] all ≡ true
   fit =
       let sigs = after items [] in
       let new = signature_of main_item in
       let calls = main_called program items right names among is_program (callee_defined program parts units is_program.main is_program.function is_program.is) in
-      let here : (agrees sigs new && item_fits names sigs main_item) ≡ true =
-      and_from (agrees sigs new) (item_fits names sigs main_item) (main_agrees program sigs new (after_right program items [] right tt) refl) (main_fits names sigs ms (c_name_of is_program.main) makes initializes calls) in
+      let here : (agrees sigs new && item_fits names (new ∷ sigs) main_item) ≡ true =
+      and_from (agrees sigs new) (item_fits names (new ∷ sigs) main_item) (main_agrees program sigs new (after_right program items [] right tt) refl) (main_fits names sigs ms (c_name_of is_program.main) makes initializes calls) in
       fit_both names items (main_item ∷ []) [] (units_fit program is_program names defines program parts [] (λ m h. h) units tt among)
-      (and_from (agrees sigs new && item_fits names sigs main_item) true here refl)
+      (and_from (agrees sigs new && item_fits names (new ∷ sigs) main_item) true here refl)
 
   sound : is_sound all ≡ true
   unfolding is_sound
@@ -221,17 +213,17 @@ module _ (program : List ModuleTree) (parts : List Part) (is_program : IsProgram
 
   each_once : calls_each_once all ≡ true
   each_once =
-      let named = are_names program is_program.formed in
-      let once : once_in_main all ≡ called_in_main ms = none_once program items main_item right ∙ main_once ms (c_name_of is_program.main) named (function_not_once is_program.main.module_name is_program.main.name) in
-      let met : all_called (called_in_main ms) names ≡ true =
-      list_all-append (is_met (called_in_main ms)) (defined_names items) (main_name ∷ [])
-      ∙ and_from (all_called (called_in_main ms) (defined_names items)) true (units_met ms program parts (has_name program) is_program.formed units) refl in
-      and_from (are_distinct (once_in_main all)) (all_called (once_in_main all) (defined_names all)) (ap are_distinct once ∙ once_distinct ms named is_program.distinct) (ap (λ c. all_called c (defined_names all)) once ∙ ap (all_called (called_in_main ms)) are ∙ met)
+      let once : once_in_main all ≡ called_in_main ms = none_once program items main_item right ∙ main_once ms (c_name_of is_program.main) (function_not_once is_program.main.module_name is_program.main.name) in
+      let met : all_called (called_in_main ms) (item_names all) ≡ true =
+      ap (all_called (called_in_main ms)) (map-append name_of items (main_item ∷ []))
+      ∙ list_all-append (is_met (called_in_main ms)) (item_names items) (main_name ∷ [])
+      ∙ and_from (all_called (called_in_main ms) (item_names items)) true (units_met ms program parts (has_name program) units) refl in
+      and_from (are_distinct (once_in_main all)) (all_called (once_in_main all) (item_names all)) (ap are_distinct once ∙ once_distinct ms is_program.distinct) (ap (λ c. all_called c (item_names all)) once ∙ met)
 
-pub joined_checked : (program : List ModuleTree) (parts : List Part) (is : IsProgram program) → AreTranslated program parts → is_checked (joined parts is.main) ≡ true
-unfolding is_checked
-joined_checked program parts is units =
+pub joined_plain : (program : List ModuleTree) (parts : List Part) (is : IsProgram program) → AreTranslated program parts → is_plain (joined parts is.main) ≡ true
+unfolding is_plain
+joined_plain program parts is units =
     let all = linked program parts is.main in
-    ap is_checked (joined_is program parts is.main units)
+    ap is_plain (joined_is program parts is.main units)
     ∙ and_from (is_sound all) (list_any is_main (defined_names all) && calls_each_once all) (sound program parts is units)
     (and_from (list_any is_main (defined_names all)) (calls_each_once all) (main_there program parts is units) (each_once program parts is units))

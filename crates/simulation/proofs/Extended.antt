@@ -15,8 +15,8 @@ use Rattle.c_tree.specs.declared.tree.Callee.TheVariants as callee
 use Rattle.c_tree.specs.declared.tree.CExpr.{CExpr}
 use Rattle.c_tree.specs.declared.tree.CExpr.TheVariants as expr
 use Rattle.c_tree.specs.declared.tree.CVar.{CVar}
-use Rattle.c_tree.specs.Code.{Code, done, assign, call, return, test, loop, Fun, Item, declared, defined}
-use Rattle.c_meaning.specs.Checked.{Signature, signature_named, variable_named, call_fits_signature, call_type, is_the_type, has_type, expr_fits, assigned_fits, code_fits, returns_last, variables_of, is_looped, Role, Main, Maker, Initializer, Function, role_of, same_type, same_types, is_straight, has_shape, function_fits, may_call, callable, item_fits}
+use Rattle.c_tree.specs.Code.{Code, done, assign, call, return, test, loop, ended, goto, catch, protect, Fun, Item, external, global, declared, defined}
+use Rattle.c_meaning.specs.Plain.{Signature, signature_named, variable_named, call_fits_signature, call_type, is_the_type, has_type, expr_fits, assigned_fits, code_fits, returns_last, variables_of, is_looped, Role, Main, Maker, Initializer, Entry, Function, role_of, same_type, same_types, is_straight, has_shape, function_fits, may_call, callable, item_fits}
 use Rattle.plan_rules.specs.Translation.{Name}
 
 -- what is found among the fewer is found among the more
@@ -65,6 +65,10 @@ module _ (fewer more : List Signature) (extends : Extends fewer more) (vars : Li
       (and_from (code_fits more vars result a) (code_fits more vars result b && code_fits more vars result rest) (code_kept result a others.0)
       (and_from (code_fits more vars result b) (code_fits more vars result rest) (code_kept result b last.0) (code_kept result rest last.1)))
   code_kept result (loop l body rest) h = absurd (cc)
+  code_kept result (ended body l rest) h = absurd (cc)
+  code_kept result (goto l rest) h = absurd (cc)
+  code_kept result (catch k r body rest) h = absurd (cc)
+  code_kept result (protect a b rest) h = absurd (cc)
 
   looped_kept : (result : CTy) (c : Code) → is_looped fewer vars result c ≡ true → is_looped more vars result c ≡ true
   looped_kept result (loop l body done) h = code_kept result body h
@@ -73,11 +77,19 @@ module _ (fewer more : List Signature) (extends : Extends fewer more) (vars : Li
   looped_kept result (loop l body (return e rest)) h = absurd (cc)
   looped_kept result (loop l body (test e a b rest)) h = absurd (cc)
   looped_kept result (loop l body (loop k c rest)) h = absurd (cc)
+  looped_kept result (loop l body (ended c k rest)) h = absurd (cc)
+  looped_kept result (loop l body (goto k rest)) h = absurd (cc)
+  looped_kept result (loop l body (catch k r c rest)) h = absurd (cc)
+  looped_kept result (loop l body (protect a b rest)) h = absurd (cc)
   looped_kept result done h = absurd (cc)
   looped_kept result (assign x e rest) h = absurd (cc)
   looped_kept result (call c rest) h = absurd (cc)
   looped_kept result (return e rest) h = absurd (cc)
   looped_kept result (test e a b rest) h = absurd (cc)
+  looped_kept result (ended body l rest) h = absurd (cc)
+  looped_kept result (goto l rest) h = absurd (cc)
+  looped_kept result (catch k r body rest) h = absurd (cc)
+  looped_kept result (protect a b rest) h = absurd (cc)
 
 -- Functions ---------------------------------------------------------------------------------
 
@@ -91,6 +103,7 @@ shape_kept : (fewer more : List Signature) → Extends fewer more → (role : Ro
 shape_kept fewer more extends Main f h = straight_kept fewer more extends Int f h
 shape_kept fewer more extends Maker f h = straight_kept fewer more extends Obj f h
 shape_kept fewer more extends Initializer f h = straight_kept fewer more extends Obj f h
+shape_kept fewer more extends Entry f h = absurd (cc)
 shape_kept fewer more extends Function f h = looped_kept fewer more extends (variables_of f) f.result f.code h
 
 function_kept : (fewer more : List Signature) → Extends fewer more → (f : Fun) → function_fits fewer f ≡ true → function_fits more f ≡ true
@@ -153,6 +166,8 @@ callable_extends role names more sigs before among n s at = go (may_name role na
 
 -- with more names and older signatures, an item still fits
 pub item_kept : (names more : List Name) (sigs before : List Signature) → AreAmong names more → (i : Item) → item_fits names sigs i ≡ true → item_fits more (sigs ++ before) i ≡ true
-item_kept names more sigs before among (declared t n ps) h = refl
+item_kept names more sigs before among (external v) h = absurd (cc)
+item_kept names more sigs before among (global v) h = absurd (cc)
+item_kept names more sigs before among (declared t n ps) h = h
 item_kept names more sigs before among (defined g) h =
     function_kept (callable (role_of g.name) names sigs) (callable (role_of g.name) more (sigs ++ before)) (callable_extends (role_of g.name) names more sigs before among) g h

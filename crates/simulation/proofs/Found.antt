@@ -1,15 +1,15 @@
 -- The functions of a program's modules, and their translations in the linked program.
-use Rattle.std.proofs.Common.{◌≡◌, List, [], ◌∷◌, ◌++◌, true, Some, refl, sym, ap, ◌∙◌, subst, inl, inr}
-use Rattle.std.specs.Prelude.{map, ◌&&◌}
-use Rattle.std.specs.List.{flat_map}
-use Rattle.std.proofs.lemmas.Bool.{and_parts}
-use Rattle.scheme_data.specs.Names.{are_distinct}
+use Rattle.std.proofs.Common.{◌≡◌, List, [], ◌∷◌, ◌++◌, true, false, Some, refl, sym, ap, ◌∙◌, subst, inl, inr}
+use Rattle.std.specs.Prelude.{map, not, ◌&&◌, ◌||◌}
+use Rattle.std.specs.List.{flat_map, list_any}
+use Rattle.std.proofs.lemmas.Bool.{and_from, and_parts, or_parts, not-true}
+use Rattle.scheme_data.specs.Names.{are_distinct, is_same}
 use Rattle.core_tree.specs.Tree.{FunctionTree, ModuleTree, Callee}
 use Rattle.meaning.specs.Procedures.{Procedure, procedure_of}
-use Rattle.c_tree.specs.Code.{Fun, Item, declared, defined}
+use Rattle.c_tree.specs.Code.{Fun, Item, external, global, declared, defined}
 use Rattle.c_tree.specs.Names.{function_name, maker_name, initializer_name}
 use Rattle.c_meaning.specs.Execution.{fun_named}
-use Rattle.c_meaning.specs.Checked.{Signature, signature_of, role_of, has_shape, callable, item_fits, agrees, items_fit, defined_names, variables_of}
+use Rattle.c_meaning.specs.Plain.{Signature, signature_of, role_of, has_shape, callable, item_fits, agrees, items_fit, defined_names, variables_of}
 use Rattle.c_meaning.specs.Program.{functions_of}
 use Rattle.plan_rules.specs.Joined.{Part, main_function, joined}
 use Rattle.plan_rules.specs.Translation.{Name, TrFunction, IsEmpty, TrForms, TrInitializer, TrFunctions, Translated, c_name_of, outside_of, is_sound_with}
@@ -22,6 +22,8 @@ use Rattle.simulation.proofs.Links.{placed}
 
 functions_of_both : (items more : List Item) → functions_of (items ++ more) ≡ functions_of items ++ functions_of more
 functions_of_both [] more = refl
+functions_of_both (external v ∷ is) more = functions_of_both is more
+functions_of_both (global v ∷ is) more = functions_of_both is more
 functions_of_both (declared t n ps ∷ is) more = functions_of_both is more
 functions_of_both (defined g ∷ is) more = ap (λ gs. g ∷ gs) (functions_of_both is more)
 
@@ -31,31 +33,55 @@ defined_before items more g h = subst (λ gs. Has gs g) (sym (functions_of_both 
 pub defined_after : (items more : List Item) (g : Fun) → Has (functions_of more) g → Has (functions_of (items ++ more)) g
 defined_after items more g h = subst (λ gs. Has gs g) (sym (functions_of_both items more)) (has_after (functions_of items) (functions_of more) g h)
 
-pub names_of_functions : (items : List Item) → map (λ g. g.name) (functions_of items) ≡ defined_names items
-names_of_functions [] = refl
-names_of_functions (declared t n ps ∷ is) = names_of_functions is
-names_of_functions (defined g ∷ is) = ap (λ ns. g.name ∷ ns) (names_of_functions is)
+abbrev pub function_names : List Item → List Name
+function_names items = map (λ g. g.name) (functions_of items)
+
+-- a name that nothing has is no function's
+no_function : (items : List Item) (n : Name) → list_any (is_same n) (defined_names items) ≡ false → list_any (is_same n) (function_names items) ≡ false
+no_function [] n e = refl
+no_function (external v ∷ is) n e = no_function is n e
+no_function (global v ∷ is) n e = no_function is n (or_parts (is_same n v.name) (list_any (is_same n) (defined_names is)) e).1
+no_function (declared t k ps ∷ is) n e = no_function is n e
+no_function (defined g ∷ is) n e =
+    let parts = or_parts (is_same n g.name) (list_any (is_same n) (defined_names is)) e in
+    ap (λ b. b || list_any (is_same n) (function_names is)) parts.0 ∙ no_function is n parts.1
+
+functions_distinct : (items : List Item) → are_distinct (defined_names items) ≡ true → are_distinct (function_names items) ≡ true
+functions_distinct [] e = refl
+functions_distinct (external v ∷ is) e = functions_distinct is e
+functions_distinct (global v ∷ is) e = functions_distinct is (and_parts (not (list_any (is_same v.name) (defined_names is))) (are_distinct (defined_names is)) e).1
+functions_distinct (declared t k ps ∷ is) e = functions_distinct is e
+functions_distinct (defined g ∷ is) e =
+    let parts = and_parts (not (list_any (is_same g.name) (defined_names is))) (are_distinct (defined_names is)) e in
+    and_from (not (list_any (is_same g.name) (function_names is))) (are_distinct (function_names is))
+    (ap not (no_function is g.name (not-true (list_any (is_same g.name) (defined_names is)) parts.0))) (functions_distinct is parts.1)
 
 -- where no name is defined twice, a function is found by its name
 pub is_found : (items : List Item) (g : Fun) (n : Name) → are_distinct (defined_names items) ≡ true → Has (functions_of items) g → g.name ≡ n → fun_named (functions_of items) n ≡ Some g
 is_found items g n distinct h named =
-    ap (fun_named (functions_of items)) (sym named) ∙ found_by_name (λ f. f.name) (functions_of items) g h (ap are_distinct (names_of_functions items) ∙ distinct)
+    ap (fun_named (functions_of items)) (sym named) ∙ found_by_name (λ f. f.name) (functions_of items) g h (functions_distinct items distinct)
+
+-- what fits goes on behind its first item
+record Fitting (names : List Name) (sigs : List Signature) (i : Item) (is : List Item) : Type 0 where
+  here : item_fits names (signature_of i ∷ sigs) i ≡ true
+  behind : items_fit names (signature_of i ∷ sigs) is ≡ true
+
+fitting : (names : List Name) (sigs : List Signature) (i : Item) (is : List Item) → items_fit names sigs (i ∷ is) ≡ true → Fitting names sigs i is
+fitting names sigs i is fit =
+    let parts = and_parts (agrees sigs (signature_of i) && item_fits names (signature_of i ∷ sigs) i) (items_fit names (signature_of i ∷ sigs) is) fit in
+    record { here = (and_parts (agrees sigs (signature_of i)) (item_fits names (signature_of i ∷ sigs) i) parts.0).1; behind = parts.1 }
 
 -- the variables of a definition have names of their own
 own_names : (items : List Item) (all : List Name) (sigs : List Signature) (g : Fun) → items_fit all sigs items ≡ true → Has (functions_of items) g → are_distinct (names (variables_of g)) ≡ true
 own_names [] all sigs g fit h = absurd h
-own_names (declared t n ps ∷ is) all sigs g fit h =
-    let new = signature_of (declared t n ps) in
-    let parts = and_parts (agrees sigs new && true) (items_fit all (new ∷ sigs) is) fit in
-    own_names is all (new ∷ sigs) g parts.1 h
+own_names (external v ∷ is) all sigs g fit h = own_names is all (signature_of (external v) ∷ sigs) g (fitting all sigs (external v) is fit).behind h
+own_names (global v ∷ is) all sigs g fit h = own_names is all (signature_of (global v) ∷ sigs) g (fitting all sigs (global v) is fit).behind h
+own_names (declared t n ps ∷ is) all sigs g fit h = own_names is all (signature_of (declared t n ps) ∷ sigs) g (fitting all sigs (declared t n ps) is fit).behind h
 own_names (defined f ∷ is) all sigs g fit (inl same) =
-    let parts = and_parts (agrees sigs (signature_of (defined f)) && item_fits all sigs (defined f)) (items_fit all (signature_of (defined f) ∷ sigs) is) fit in
-    let here = and_parts (agrees sigs (signature_of (defined f))) (item_fits all sigs (defined f)) parts.0 in
-    let distinct = and_parts (are_distinct (names (variables_of f))) (has_shape (callable (role_of f.name) all sigs) (role_of f.name) f) here.1 in
+    let calls = callable (role_of f.name) all (signature_of (defined f) ∷ sigs) in
+    let distinct = and_parts (are_distinct (names (variables_of f))) (has_shape calls (role_of f.name) f) (fitting all sigs (defined f) is fit).here in
     subst (λ y. are_distinct (names (variables_of y)) ≡ true) same distinct.0
-own_names (defined f ∷ is) all sigs g fit (inr h) =
-    let parts = and_parts (agrees sigs (signature_of (defined f)) && item_fits all sigs (defined f)) (items_fit all (signature_of (defined f) ∷ sigs) is) fit in
-    own_names is all (signature_of (defined f) ∷ sigs) g parts.1 h
+own_names (defined f ∷ is) all sigs g fit (inr h) = own_names is all (signature_of (defined f) ∷ sigs) g (fitting all sigs (defined f) is fit).behind h
 
 -- Definitions of a unit ---------------------------------------------------------------------
 
@@ -70,6 +96,8 @@ later P g gs h = record { g = h.g; member = inr h.member; is = h.is }
 
 pub function_defined : (m : ModuleTree) (fs : List FunctionTree) (items : List Item) (f : FunctionTree) → TrFunctions m fs items → Has fs f → Defined (functions_of items) (TrFunction m f)
 function_defined m fs [] f tr h = absurd tr
+function_defined m fs (external v ∷ is) f tr h = absurd tr
+function_defined m fs (global v ∷ is) f tr h = absurd tr
 function_defined m [] (declared t n ps ∷ is) f tr h = absurd h
 function_defined m [] (defined g ∷ is) f tr h = absurd h
 function_defined m (x ∷ fs) (declared t n ps ∷ is) f tr h = function_defined m (x ∷ fs) is f tr h
@@ -78,11 +106,15 @@ function_defined m (x ∷ fs) (defined g ∷ is) f tr (inr h) = later (TrFunctio
 
 initializer_at : (m : ModuleTree) (items : List Item) → TrInitializer m items → Defined (functions_of items) (TrForms m)
 initializer_at m [] tr = absurd tr
+initializer_at m (external v ∷ is) tr = absurd tr
+initializer_at m (global v ∷ is) tr = absurd tr
 initializer_at m (declared t n ps ∷ is) tr = initializer_at m is tr
 initializer_at m (defined g ∷ is) tr = record { g = g; member = inl refl; is = tr.0 }
 
 pub maker_defined : (m : ModuleTree) (fs : List FunctionTree) (items : List Item) → TrFunctions m fs items → Defined (functions_of items) (IsEmpty (maker_name m.name))
 maker_defined m fs [] tr = absurd tr
+maker_defined m fs (external v ∷ is) tr = absurd tr
+maker_defined m fs (global v ∷ is) tr = absurd tr
 maker_defined m [] (declared t n ps ∷ is) tr = maker_defined m [] is tr
 maker_defined m (f ∷ fs) (declared t n ps ∷ is) tr = maker_defined m (f ∷ fs) is tr
 maker_defined m (f ∷ fs) (defined g ∷ is) tr = later (IsEmpty (maker_name m.name)) g (functions_of is) (maker_defined m fs is tr.1)
@@ -90,6 +122,8 @@ maker_defined m [] (defined g ∷ is) tr = record { g = g; member = inl refl; is
 
 pub initializer_defined : (m : ModuleTree) (fs : List FunctionTree) (items : List Item) → TrFunctions m fs items → Defined (functions_of items) (TrForms m)
 initializer_defined m fs [] tr = absurd tr
+initializer_defined m fs (external v ∷ is) tr = absurd tr
+initializer_defined m fs (global v ∷ is) tr = absurd tr
 initializer_defined m [] (declared t n ps ∷ is) tr = initializer_defined m [] is tr
 initializer_defined m (f ∷ fs) (declared t n ps ∷ is) tr = initializer_defined m (f ∷ fs) is tr
 initializer_defined m (f ∷ fs) (defined g ∷ is) tr = later (TrForms m) g (functions_of is) (initializer_defined m fs is tr.1)

@@ -8,7 +8,7 @@ use Rattle.c_tree.specs.declared.tree.CTy.{CTy}
 use Rattle.c_tree.specs.declared.tree.CVar.{CVar}
 use Rattle.c_meaning.specs.State.{Cell, Frame, put}
 use Rattle.c_meaning.specs.Execution.{Names, position_of}
-use Rattle.c_meaning.specs.Checked.{is_typed, variable_named}
+use Rattle.c_meaning.specs.Plain.{is_typed, variable_named}
 use Rattle.plan_rules.specs.Translation.{Name, In, Fresh, IsLocal, Target, into, back}
 
 abbrev pub names : List CVar → Names

@@ -31,7 +31,7 @@ use Rattle.c_meaning.specs.Word as word
 use Rattle.c_meaning.specs.State.{Cell, AWord, State as CState, Frame, put, frame_of, Answer, Has as HasCell, Flow, Next, Goes, Returns, Escapes, Raises, Spends, Fails, with, after, answer}
 use Rattle.c_meaning.specs.Operations.{ACell, operate, status_in}
 use Rattle.c_meaning.specs.Execution.{Lower, fun_named, names_of, entry, iterate, looped, run, enter, enter_any, exec, exec_main}
-use Rattle.c_meaning.specs.Checked.{defined_names}
+use Rattle.c_meaning.specs.Plain.{defined_names}
 use Rattle.c_meaning.specs.Program.{cm, functions_of, shown, start, run_main, main_of}
 use Rattle.plan_rules.specs.declared.rep.Rep.TheVariants.{Obj}
 use Rattle.plan_rules.specs.Translation.{Name, IsEmpty, TrFunction, TrForms, c_name_of}

@@ -3,30 +3,29 @@ use Rattle.std.proofs.Common.{◌≡◌, List, [], ◌∷◌, ◌++◌, Bool, tr
 use Rattle.std.specs.Prelude.{map, not, ◌||◌, if◌then◌else◌, IsTrue}
 use Rattle.std.specs.List.{list_any, list_all}
 use Rattle.std.proofs.lemmas.Bool.{and_from, and_parts, not-true}
-use Rattle.std.proofs.lemmas.List.{append-nil}
+use Rattle.std.proofs.lemmas.List.{append-nil, map-append}
 use Rattle.std.proofs.lemmas.List.Folds.{list_any-append, list_all-append}
 use Rattle.std.specs.Cmp.Lexicographic.{bytes_decides}
 use Rattle.scheme_data.specs.Names.{are_distinct, is_same}
 use Rattle.scheme_data.specs.Symbols.{IsSymbol}
-use Rattle.core_tree.specs.Tree.{ModuleTree}
+use Rattle.core_tree.specs.Tree.{ModuleTree, Callee}
 use Rattle.core_tree.specs.WellFormed.{AreNames}
-use Rattle.meaning.specs.Program.{AreWellFormed}
 use Rattle.c_tree.specs.declared.tree.CTy.TheVariants.{Obj, Int}
 use Rattle.c_tree.specs.declared.tree.CVar.{CVar}
-use Rattle.c_tree.specs.Code.{Code}
-use Rattle.c_tree.specs.Names.{maker_name, initializer_name, is_function_name, is_local_name}
+use Rattle.c_tree.specs.Code.{Code, Item, external, global, declared, defined}
+use Rattle.c_tree.specs.Names.{maker_name, initializer_name, is_module_function, is_entry_name, is_maker_name, is_initializer_name, is_function_name, is_local_name, is_variable_name}
 use Rattle.c_tree.specs.Spelling.{NamedCode, NamedItem}
 use Rattle.c_tree.specs.declared.op.Wants.TheVariants.{AType}
-use Rattle.c_meaning.specs.Checked.{Signature, signature_named, same_type, arguments_fit, call_fits_signature, is_the_type, has_type, code_fits, returns_last, Main, callable, item_fits, defined_names, is_called_once, once_in, once_in_main, all_called}
+use Rattle.c_meaning.specs.Plain.{Signature, signature_of, signature_named, same_type, arguments_fit, call_fits_signature, is_the_type, has_type, code_fits, returns_last, Main, callable, item_fits, defined_names, item_names, is_called_once, once_in, once_in_main, all_called}
 use Rattle.plan_rules.specs.Representation.{local}
 use Rattle.plan_rules.specs.Joined.{Part, first_local, second_local, calls_alone, call_main, main_code, main_function}
-use Rattle.plan_rules.specs.Translation.{Name}
+use Rattle.plan_rules.specs.Translation.{Name, callees, AreDeclared}
 use Rattle.simulation.specs.Law.{AreTranslated}
 use Rattle.c_tree.proofs.CNames.{maker_name_part, initializer_name_part}
 use Rattle.plan_rules.proofs.NameKinds.{NameOf, a_function, a_maker, an_initializer, maker_is_once, initializer_is_once, function_not_once, other_kinds, other_name}
 use Rattle.c_tree.proofs.CNames.{named_maker, named_initializer}
 use Rattle.simulation.proofs.Members.{Has, named_there}
-use Rattle.simulation.proofs.Signatures.{or_later, defined_both}
+use Rattle.simulation.proofs.Signatures.{or_later}
 use Rattle.simulation.proofs.Distinct.{items_of, or_parts, distinct_both, NamesOf, unit_named}
 
 -- Names -------------------------------------------------------------------------------------
@@ -36,11 +35,11 @@ named_calls of each [] are rest named = named
 named_calls of each (m ∷ ms) are rest named = ((each m are.0, tt), named_calls of each ms are.1 rest named)
 
 call_named : (f : Name) → IsTrue (is_function_name f) → NamedCode (call_main f)
-unfolding is_local_name
+unfolding is_local_name is_variable_name
 call_named f named = (refl, (tt, tt), (refl, (named, (refl, tt)), ((tt, (refl, tt)), tt)))
 
 pub main_named : (ms : List Name) (f : Name) → AreNames ms → IsTrue (is_function_name f) → NamedItem (main_function ms f)
-unfolding is_function_name is_local_name
+unfolding is_module_function is_entry_name is_maker_name is_initializer_name is_function_name is_local_name
 main_named ms f are named =
     (refl, tt, (refl, (refl, tt)), named_calls maker_name named_maker ms are (calls_alone (map initializer_name ms) (call_main f)) (named_calls initializer_name named_initializer ms are (call_main f) (call_named f named)))
 
@@ -93,16 +92,16 @@ main_fits names sigs ms f made initialized called =
 abbrev pub called_in_main : List Name → List Name
 called_in_main ms = map maker_name ms ++ map initializer_name ms
 
-calls_once : (of : Name → Name) → ((m : Name) → IsSymbol m → is_called_once (of m) ≡ true) → (ms : List Name) → AreNames ms → (rest : Code) → once_in (calls_alone (map of ms) rest) ≡ map of ms ++ once_in rest
-calls_once of each [] are rest = refl
-calls_once of each (m ∷ ms) are rest =
-    ap (λ b. (if b then of m ∷ [] else []) ++ once_in (calls_alone (map of ms) rest)) (each m are.0) ∙ ap (λ ns. of m ∷ ns) (calls_once of each ms are.1 rest)
+calls_once : (of : Name → Name) → ((m : Name) → is_called_once (of m) ≡ true) → (ms : List Name) (rest : Code) → once_in (calls_alone (map of ms) rest) ≡ map of ms ++ once_in rest
+calls_once of each [] rest = refl
+calls_once of each (m ∷ ms) rest =
+    ap (λ b. (if b then of m ∷ [] else []) ++ once_in (calls_alone (map of ms) rest)) (each m) ∙ ap (λ ns. of m ∷ ns) (calls_once of each ms rest)
 
-pub main_once : (ms : List Name) (f : Name) → AreNames ms → is_called_once f ≡ false → once_in_main (main_function ms f ∷ []) ≡ called_in_main ms
-main_once ms f are never =
+pub main_once : (ms : List Name) (f : Name) → is_called_once f ≡ false → once_in_main (main_function ms f ∷ []) ≡ called_in_main ms
+main_once ms f never =
     let last : once_in (call_main f) ≡ [] = rw never refl in
-    calls_once maker_name maker_is_once ms are (calls_alone (map initializer_name ms) (call_main f))
-    ∙ ap (λ ns. map maker_name ms ++ ns) (calls_once initializer_name initializer_is_once ms are (call_main f) ∙ ap (λ ns. map initializer_name ms ++ ns) last ∙ append-nil (map initializer_name ms))
+    calls_once maker_name maker_is_once ms (calls_alone (map initializer_name ms) (call_main f))
+    ∙ ap (λ ns. map maker_name ms ++ ns) (calls_once initializer_name initializer_is_once ms (call_main f) ∙ ap (λ ns. map initializer_name ms ++ ns) last ∙ append-nil (map initializer_name ms))
 
 -- Each once ---------------------------------------------------------------------------------
 
@@ -124,28 +123,31 @@ distinct_of of parts (m ∷ ms) distinct =
     (ap not (others_of of parts m ms (not-true (list_any (is_same m) ms) apart.0)))
     (distinct_of of parts ms apart.1)
 
-no_initializer : (m : Name) → IsSymbol m → (ks : List Name) → list_any (is_same (maker_name m)) (map initializer_name ks) ≡ false
-no_initializer m is [] = refl
-no_initializer m is (k ∷ ks) = ap (λ b. b || list_any (is_same (maker_name m)) (map initializer_name ks)) (other_name (maker_name m) (initializer_name k) (other_kinds m k is)) ∙ no_initializer m is ks
+no_initializer : (m : Name) (ks : List Name) → list_any (is_same (maker_name m)) (map initializer_name ks) ≡ false
+no_initializer m [] = refl
+no_initializer m (k ∷ ks) = ap (λ b. b || list_any (is_same (maker_name m)) (map initializer_name ks)) (other_name (maker_name m) (initializer_name k) (other_kinds m k)) ∙ no_initializer m ks
 
-no_initializers : (ms ks : List Name) → AreNames ms → list_all (λ n. not (list_any (is_same n) (map initializer_name ks))) (map maker_name ms) ≡ true
-no_initializers [] ks are = refl
-no_initializers (m ∷ ms) ks are =
+no_initializers : (ms ks : List Name) → list_all (λ n. not (list_any (is_same n) (map initializer_name ks))) (map maker_name ms) ≡ true
+no_initializers [] ks = refl
+no_initializers (m ∷ ms) ks =
     and_from (not (list_any (is_same (maker_name m)) (map initializer_name ks))) (list_all (λ n. not (list_any (is_same n) (map initializer_name ks))) (map maker_name ms))
-    (ap not (no_initializer m are.0 ks)) (no_initializers ms ks are.1)
+    (ap not (no_initializer m ks)) (no_initializers ms ks)
 
-pub once_distinct : (ms : List Name) → AreNames ms → are_distinct ms ≡ true → are_distinct (called_in_main ms) ≡ true
-once_distinct ms are distinct =
-    distinct_both (map maker_name ms) (map initializer_name ms) (distinct_of maker_name maker_name_part ms distinct) (distinct_of initializer_name initializer_name_part ms distinct) (no_initializers ms ms are)
+pub once_distinct : (ms : List Name) → are_distinct ms ≡ true → are_distinct (called_in_main ms) ≡ true
+once_distinct ms distinct =
+    distinct_both (map maker_name ms) (map initializer_name ms) (distinct_of maker_name maker_name_part ms distinct) (distinct_of initializer_name initializer_name_part ms distinct) (no_initializers ms ms)
 
 -- All of them -------------------------------------------------------------------------------
+
+abbrev pub name_of : Item → Name
+name_of i = (signature_of i).name
 
 -- a name is no maker's or initialisation's, or is called
 abbrev pub is_met : List Name → Name → Bool
 is_met called name = not (is_called_once name) || list_any (is_same name) called
 
 name_met : (ms : List Name) (m n : Name) → Has ms m → NameOf m n → is_met (called_in_main ms) n ≡ true
-name_met ms m n h (a_function f is e) = ap (λ b. not b || list_any (is_same n) (called_in_main ms)) (ap is_called_once e ∙ function_not_once m f)
+name_met ms m n h (a_function f e) = ap (λ b. not b || list_any (is_same n) (called_in_main ms)) (ap is_called_once e ∙ function_not_once m f)
 name_met ms m n h (a_maker e) =
     or_later (not (is_called_once n)) (list_any (is_same n) (called_in_main ms))
     (list_any-append (is_same n) (map maker_name ms) (map initializer_name ms)
@@ -155,18 +157,31 @@ name_met ms m n h (an_initializer e) =
     (list_any-append (is_same n) (map maker_name ms) (map initializer_name ms)
     ∙ or_later (list_any (is_same n) (map maker_name ms)) (list_any (is_same n) (map initializer_name ms)) (ap (λ x. list_any (is_same x) (map initializer_name ms)) e ∙ named_there initializer_name ms m h))
 
-unit_met : (ms : List Name) (m : Name) → Has ms m → (ns : List Name) → NamesOf m ns → all_called (called_in_main ms) ns ≡ true
-unit_met ms m h [] named = refl
-unit_met ms m h (n ∷ ns) named = and_from (is_met (called_in_main ms) n) (all_called (called_in_main ms) ns) (name_met ms m n h named.0) (unit_met ms m h ns named.1)
+names_met : (ms : List Name) (m : Name) → Has ms m → (ns : List Name) → NamesOf m ns → all_called (called_in_main ms) ns ≡ true
+names_met ms m h [] named = refl
+names_met ms m h (n ∷ ns) named = and_from (is_met (called_in_main ms) n) (all_called (called_in_main ms) ns) (name_met ms m n h named.0) (names_met ms m h ns named.1)
 
-pub units_met : (names : List Name) (ms : List ModuleTree) (parts : List Part) → ((m : ModuleTree) → Has ms m → Has names m.name) → AreWellFormed ms → AreTranslated ms parts → all_called (called_in_main names) (defined_names (items_of parts)) ≡ true
-units_met names [] [] within formed tr = refl
-units_met names [] (p ∷ ps) within formed tr = absurd tr
-units_met names (m ∷ ms) [] within formed tr = absurd tr
-units_met names (m ∷ ms) (p ∷ ps) within formed tr =
+-- what is declared alone is a function
+items_met : (called : List Name) (cs : List Callee) (items : List Item) → AreDeclared cs items → all_called called (defined_names items) ≡ true → all_called called (item_names items) ≡ true
+items_met called cs [] are e = refl
+items_met called cs (external v ∷ is) are e = absurd are
+items_met called cs (global v ∷ is) are e = absurd are
+items_met called cs (declared t n ps ∷ is) are e =
+    let c = are.0.callee in
+    and_from (is_met called n) (all_called called (item_names is)) (ap (λ b. not b || list_any (is_same n) called) (ap is_called_once are.0.named ∙ function_not_once c.module_name c.name)) (items_met called cs is are.1 e)
+items_met called cs (defined g ∷ is) are e =
+    let parts = and_parts (is_met called g.name) (all_called called (defined_names is)) e in
+    and_from (is_met called g.name) (all_called called (item_names is)) parts.0 (items_met called cs is are parts.1)
+
+pub units_met : (names : List Name) (ms : List ModuleTree) (parts : List Part) → ((m : ModuleTree) → Has ms m → Has names m.name) → AreTranslated ms parts → all_called (called_in_main names) (item_names (items_of parts)) ≡ true
+units_met names [] [] within tr = refl
+units_met names [] (p ∷ ps) within tr = absurd tr
+units_met names (m ∷ ms) [] within tr = absurd tr
+units_met names (m ∷ ms) (p ∷ ps) within tr =
     let called = called_in_main names in
-    ap (all_called called) (defined_both p.items (items_of ps))
-    ∙ list_all-append (is_met called) (defined_names p.items) (defined_names (items_of ps))
-    ∙ and_from (all_called called (defined_names p.items)) (all_called called (defined_names (items_of ps)))
-    (unit_met names m.name (within m (inl refl)) (defined_names p.items) (unit_named m p.items formed.0 tr.0.translated))
-    (units_met names ms ps (λ k h. within k (inr h)) formed.1 tr.1)
+    let one = tr.0.translated in
+    ap (all_called called) (map-append name_of p.items (items_of ps))
+    ∙ list_all-append (is_met called) (item_names p.items) (item_names (items_of ps))
+    ∙ and_from (all_called called (item_names p.items)) (all_called called (item_names (items_of ps)))
+    (items_met called (callees m) p.items one.declarations (names_met names m.name (within m (inl refl)) (defined_names p.items) (unit_named m p.items one)))
+    (units_met names ms ps (λ k h. within k (inr h)) tr.1)

@@ -11,7 +11,7 @@ use Rattle.meaning.specs.Value.{Value, Fixnum, Boolean, Empty, Unspecified, Stat
 use Rattle.meaning.specs.Value as src
 use Rattle.meaning.specs.Primitives.{act}
 use Rattle.meaning.specs.Primitives as prim
-use Rattle.c_tree.specs.declared.op.Op.TheVariants.{Primitive as Does}
+use Rattle.c_tree.specs.Operations.{primitive_op}
 use Rattle.c_tree.specs.declared.tree.CVar.{CVar}
 use Rattle.c_meaning.specs.Word.{Word, Unspec}
 use Rattle.c_meaning.specs.Word as word
@@ -37,10 +37,10 @@ in_range_at p false world n s t same = record { later = world; t = t; is = refl;
 truth_answers : (world : World) (b : Bool) (s : State) (t : CState) → Same world s t → Answers world s Truth_rep (Boolean b) s (c.Has (ANumber (truth_number b)) t)
 truth_answers world b s t same = record { later = world; cell = ANumber (truth_number b); t = t; is = refl; here = record { b = b; value = refl; is = refl }; grows = grows_same world; frozen = frozen_same (hide world) s; same = same }
 
-add_at : (world : World) (v u : Value) (a b : Cell) (s : State) (t : CState) → LongCell v a → LongCell u b → Same world s t → Answered world s Long (prim.add (v ∷ u ∷ []) s) (operate (Does Add) (ACell a ∷ ACell b ∷ []) t)
+add_at : (world : World) (v u : Value) (a b : Cell) (s : State) (t : CState) → LongCell v a → LongCell u b → Same world s t → Answered world s Long (prim.add (v ∷ u ∷ []) s) (operate (primitive_op Add) (ACell a ∷ ACell b ∷ []) t)
 add_at world v u a b s t l r same = rw (l.value, r.value, l.is, r.is) (in_range_at Add (is_fixnum (l.n +ℤ r.n)) world (l.n +ℤ r.n) s t same)
 
-less_at : (world : World) (v u : Value) (a b : Cell) (s : State) (t : CState) → LongCell v a → LongCell u b → Same world s t → Answered world s Truth_rep (prim.less (v ∷ u ∷ []) s) (operate (Does Less) (ACell a ∷ ACell b ∷ []) t)
+less_at : (world : World) (v u : Value) (a b : Cell) (s : State) (t : CState) → LongCell v a → LongCell u b → Same world s t → Answered world s Truth_rep (prim.less (v ∷ u ∷ []) s) (operate (primitive_op Less) (ACell a ∷ ACell b ∷ []) t)
 less_at world v u a b s t l r same = rw (l.value, r.value, l.is, r.is) (truth_answers world (int_lt l.n r.n) s t same)
 
 printed_alike : (world : World) (v : Value) (w : Word) → WordOf world v w → prim.printed v ≡ word.printed w
@@ -64,10 +64,10 @@ prints world a b s t e same =
       same = record { output = ap (λ x. x ++ a) same.output ∙ ap (λ x. t.output ++ x) e; input = same.input; turns = same.turns; size = same.size; one_place = same.one_place; blocks = same.blocks; globals = same.globals };
     }
 
-display_at : (world : World) (v : Value) (a : Cell) (s : State) (t : CState) → ObjCell world v a → Same world s t → Answered world s Obj (prim.display (v ∷ []) s) (operate (Does Display) (ACell a ∷ []) t)
+display_at : (world : World) (v : Value) (a : Cell) (s : State) (t : CState) → ObjCell world v a → Same world s t → Answered world s Obj (prim.display (v ∷ []) s) (operate (primitive_op Display) (ACell a ∷ []) t)
 display_at world v a s t l same = rw l.is (prints world (prim.printed v) (word.printed l.w) s t (printed_alike world v l.w l.means) same)
 
-pub acts_alike : (q : Builtin) (vars : List CVar) (world : World) (vs : List Value) (xs : List Name) (f : Frame) (s : State) (t : CState) → AllArgs vars world f (params_of q) vs xs → Same world s t → Answered world s (rep_of (result_of q)) (act q vs s) (operate (Does q) (arguments (names vars) f (map local xs)) t)
+pub acts_alike : (q : Builtin) (vars : List CVar) (world : World) (vs : List Value) (xs : List Name) (f : Frame) (s : State) (t : CState) → AllArgs vars world f (params_of q) vs xs → Same world s t → Answered world s (rep_of (result_of q)) (act q vs s) (operate (primitive_op q) (arguments (names vars) f (map local xs)) t)
 acts_alike Add vars world _ _ f s t (argument l lf (argument r rf no_arguments)) same = add_at world _ _ _ _ s t l r same
 acts_alike Less vars world _ _ f s t (argument l lf (argument r rf no_arguments)) same = less_at world _ _ _ _ s t l r same
 acts_alike Display vars world _ _ f s t (argument l lf no_arguments) same = display_at world _ _ s t l same

@@ -16,12 +16,12 @@ use Rattle.meaning.specs.Procedures.{Procedure, module_named, procedure_in, proc
 use Rattle.meaning.specs.Program.{AreWellFormed, IsProgram}
 use Rattle.c_tree.specs.declared.tree.CTy.{CTy}
 use Rattle.c_tree.specs.declared.tree.CTy.TheVariants.{Obj}
-use Rattle.c_tree.specs.Code.{Fun, Item, declared, defined}
-use Rattle.c_tree.specs.Names.{maker_name, is_main}
-use Rattle.c_meaning.specs.Checked.{Signature, signature_of, same_signature, signature_named, agrees, is_called_once}
+use Rattle.c_tree.specs.Code.{Fun, Item, external, global, declared, defined}
+use Rattle.c_tree.specs.Names.{maker_name, is_main, is_maker, is_initializer, is_entry}
+use Rattle.c_meaning.specs.Plain.{Signature, signature_of, same_signature, signature_named, Role, Main, Maker, Initializer, Entry, Function, role_of, may_call, agrees, is_called_once}
 use Rattle.plan_rules.specs.Translation.{Name, TrFunction, IsEmpty, DefineNothing, TrForms, TrInitializer, TrFunctions, callees, IsDeclared, AreDeclared, c_name_of, Translated}
 use Rattle.c_tree.proofs.CNames.{function_name_parts}
-use Rattle.plan_rules.proofs.NameKinds.{never_once, maker_is_once, initializer_is_once, function_not_main}
+use Rattle.plan_rules.proofs.NameKinds.{function_role, never_once, maker_is_once, initializer_is_once, function_not_main}
 use Rattle.simulation.proofs.Members.{Has, all_have, each_passes}
 use Rattle.simulation.proofs.Links.{placed, formed_at, own_there}
 use Rattle.simulation.proofs.Signatures.{after, signature_same}
@@ -120,6 +120,22 @@ right_not_main program s (inr h) = go (is_main s.name) refl
     go false e = e
     go true e = absurd (let bad : false ≡ true = sym (ap is_called_once ((bytes_decides s.name (codes "main")).0 e)) ∙ h.once in cc)
 
+-- `main` may call what is of a program
+once_may_call : (n : Name) → is_main n ≡ false → is_called_once n ≡ true → may_call Main (role_of n) ≡ true
+once_may_call n e once = ap (λ b. may_call Main (if b then Main else others)) e ∙ go (is_maker n) (is_initializer n) once
+  where
+    others : Role
+    others = if is_maker n then Maker else (if is_initializer n then Initializer else (if is_entry n then Entry else Function))
+
+    go : (a b : Bool) → (a || b) ≡ true → may_call Main (if a then Maker else (if b then Initializer else (if is_entry n then Entry else Function))) ≡ true
+    go true b once1 = refl
+    go false true once1 = refl
+    go false false once1 = absurd (cc)
+
+pub right_may_call : (program : List ModuleTree) (s : Signature) → Right program s → may_call Main (role_of s.name) ≡ true
+right_may_call program s (inl h) = ap (λ n. may_call Main (role_of n)) h.named ∙ ap (may_call Main) (function_role h.callee.module_name h.callee.name)
+right_may_call program s (inr h) = once_may_call s.name (right_not_main program s (inr h)) h.once
+
 -- Two of one name ---------------------------------------------------------------------------
 
 -- callees of one C name are of one function
@@ -167,27 +183,30 @@ module _ (program : List ModuleTree) (is_program : IsProgram program) (m : Modul
       let h = there program c (own_there program is_program m member f here) in
       inl (record { callee = c; procedure = h.procedure; at = h.at; named = tr.name; gives = tr.result; takes = tr.params ∙ objects_replicated f.params ∙ ap (λ n. replicate n Obj) (sym h.count) })
 
-  is_name : IsSymbol m.name
-  is_name = (formed_at program m member is_program.formed).name
-
   maker_right : (g : Fun) → IsEmpty (maker_name m.name) g → Right program (signature_of (defined g))
-  maker_right g tr = inr (record { once = ap is_called_once tr.named ∙ maker_is_once m.name is_name; gives = tr.result; takes = ap (map (λ v. v.ty)) tr.params })
+  maker_right g tr = inr (record { once = ap is_called_once tr.named ∙ maker_is_once m.name; gives = tr.result; takes = ap (map (λ v. v.ty)) tr.params })
 
   forms_right : (g : Fun) → TrForms m g → Right program (signature_of (defined g))
-  forms_right g tr = inr (record { once = ap is_called_once tr.named ∙ initializer_is_once m.name is_name; gives = tr.result; takes = ap (map (λ v. v.ty)) tr.params })
+  forms_right g tr = inr (record { once = ap is_called_once tr.named ∙ initializer_is_once m.name; gives = tr.result; takes = ap (map (λ v. v.ty)) tr.params })
 
   nothing_right : (items : List Item) → DefineNothing items → AreDeclared (callees m) items → ItemsRight program items
   nothing_right [] tr are = tt
+  nothing_right (external v ∷ is) tr are = absurd tr
+  nothing_right (global v ∷ is) tr are = absurd tr
   nothing_right (declared t n ps ∷ is) tr are = (declared_right t n ps are.0, nothing_right is tr are.1)
   nothing_right (defined g ∷ is) tr are = absurd tr
 
   initializer_right : (items : List Item) → TrInitializer m items → AreDeclared (callees m) items → ItemsRight program items
   initializer_right [] tr are = tt
+  initializer_right (external v ∷ is) tr are = absurd tr
+  initializer_right (global v ∷ is) tr are = absurd tr
   initializer_right (declared t n ps ∷ is) tr are = (declared_right t n ps are.0, initializer_right is tr are.1)
   initializer_right (defined g ∷ is) tr are = (forms_right g tr.0, nothing_right is tr.1 are)
 
   items_right : (fs : List FunctionTree) (items : List Item) → ((f : FunctionTree) → Has fs f → Has m.functions f) → TrFunctions m fs items → AreDeclared (callees m) items → ItemsRight program items
   items_right fs [] within tr are = tt
+  items_right fs (external v ∷ is) within tr are = absurd tr
+  items_right fs (global v ∷ is) within tr are = absurd tr
   items_right [] (declared t n ps ∷ is) within tr are = (declared_right t n ps are.0, items_right [] is within tr are.1)
   items_right (f ∷ fs) (declared t n ps ∷ is) within tr are = (declared_right t n ps are.0, items_right (f ∷ fs) is within tr are.1)
   items_right (f ∷ fs) (defined g ∷ is) within tr are = (function_right f g (within f (inl refl)) tr.0, items_right fs is (λ x h. within x (inr h)) tr.1 are)

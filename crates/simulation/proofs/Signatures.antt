@@ -7,8 +7,8 @@ use Rattle.std.specs.Cmp.Lexicographic.{nat_list_eq_equiv}
 use Rattle.scheme_data.specs.Names.{is_same}
 use Rattle.c_tree.specs.declared.tree.CTy.{CTy}
 use Rattle.c_tree.specs.declared.tree.CTy.TheVariants.{Obj, Long, Char, Int}
-use Rattle.c_tree.specs.Code.{Item, declared, defined}
-use Rattle.c_meaning.specs.Checked.{Signature, signature_of, same_type, same_types, same_signature, signature_named, agrees, item_fits, items_fit, defined_names}
+use Rattle.c_tree.specs.Code.{Item, external, global, declared, defined}
+use Rattle.c_meaning.specs.Plain.{Signature, signature_of, same_type, same_types, same_signature, signature_named, agrees, item_fits, items_fit, defined_names}
 use Rattle.plan_rules.specs.Translation.{Name}
 
 -- the signatures after these items, the newest first
@@ -60,16 +60,22 @@ stays_signed : (items : List Item) (sigs : List Signature) (n : Name) → has_si
 stays_signed [] sigs n e = e
 stays_signed (i ∷ is) sigs n e = stays_signed is (signature_of i ∷ sigs) n (or_later (is_same (signature_of i).name n) (has_signature sigs n) e)
 
+-- a name at the front, or among the others
+front_has : (s : Signature) (is : List Item) (sigs : List Signature) (n : Name) → (is_same n s.name || list_any (is_same n) (defined_names is)) ≡ true → (list_any (is_same n) (defined_names is) ≡ true → has_signature (after is (s ∷ sigs)) n ≡ true) → has_signature (after is (s ∷ sigs)) n ≡ true
+front_has s is sigs n e later = go (is_same n s.name) refl e
+  where
+    go : (b : Bool) → is_same n s.name ≡ b → (b || list_any (is_same n) (defined_names is)) ≡ true → has_signature (after is (s ∷ sigs)) n ≡ true
+    go true eb q = stays_signed is (s ∷ sigs) n (ap (λ b. b || has_signature sigs n) (nat_list_eq_equiv.symm s.name n ∙ eb))
+    go false eb q = later q
+
 defined_has : (items : List Item) (sigs : List Signature) (n : Name) → list_any (is_same n) (defined_names items) ≡ true → has_signature (after items sigs) n ≡ true
 defined_has [] sigs n e = absurd (cc)
+defined_has (external v ∷ is) sigs n e = defined_has is (signature_of (external v) ∷ sigs) n e
+defined_has (global v ∷ is) sigs n e = front_has (signature_of (global v)) is sigs n e (λ e1. defined_has is (signature_of (global v) ∷ sigs) n e1)
 defined_has (declared t k ps ∷ is) sigs n e = defined_has is (signature_of (declared t k ps) ∷ sigs) n e
-defined_has (defined g ∷ is) sigs n e = go (is_same n g.name) refl e (λ e1. defined_has is (signature_of (defined g) ∷ sigs) n e1)
-  where
-    go : (b : Bool) → is_same n g.name ≡ b → (b || list_any (is_same n) (defined_names is)) ≡ true → (list_any (is_same n) (defined_names is) ≡ true → has_signature (after is (signature_of (defined g) ∷ sigs)) n ≡ true) → has_signature (after is (signature_of (defined g) ∷ sigs)) n ≡ true
-    go true eb q later = stays_signed is (signature_of (defined g) ∷ sigs) n (ap (λ b. b || has_signature sigs n) (nat_list_eq_equiv.symm g.name n ∙ eb))
-    go false eb q later = later q
+defined_has (defined g ∷ is) sigs n e = front_has (signature_of (defined g)) is sigs n e (λ e1. defined_has is (signature_of (defined g) ∷ sigs) n e1)
 
--- a function that is defined has a signature
+-- what is defined has a signature
 pub defined_signed : (items : List Item) (n : Name) → list_any (is_same n) (defined_names items) ≡ true → Signed (after items []) n
 defined_signed items n e = signed (after items []) n (defined_has items [] n e)
 
@@ -79,11 +85,13 @@ defined_signed items n e = signed (after items []) n (defined_has items [] n e)
 pub fit_both : (names : List Name) (xs ys : List Item) (sigs : List Signature) → items_fit names sigs xs ≡ true → items_fit names (after xs sigs) ys ≡ true → items_fit names sigs (xs ++ ys) ≡ true
 fit_both names [] ys sigs e f = f
 fit_both names (x ∷ xs) ys sigs e f =
-    let here = agrees sigs (signature_of x) && item_fits names sigs x in
+    let here = agrees sigs (signature_of x) && item_fits names (signature_of x ∷ sigs) x in
     let parts = and_parts here (items_fit names (signature_of x ∷ sigs) xs) e in
     and_from here (items_fit names (signature_of x ∷ sigs) (xs ++ ys)) parts.0 (fit_both names xs ys (signature_of x ∷ sigs) parts.1 f)
 
 pub defined_both : (xs ys : List Item) → defined_names (xs ++ ys) ≡ defined_names xs ++ defined_names ys
 defined_both [] ys = refl
+defined_both (external v ∷ xs) ys = defined_both xs ys
+defined_both (global v ∷ xs) ys = ap (λ names. v.name ∷ names) (defined_both xs ys)
 defined_both (declared t n ps ∷ xs) ys = defined_both xs ys
 defined_both (defined g ∷ xs) ys = ap (λ names. g.name ∷ names) (defined_both xs ys)

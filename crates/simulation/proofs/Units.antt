@@ -9,16 +9,16 @@ use Rattle.scheme_data.specs.Names.{are_distinct, is_same}
 use Rattle.core_tree.specs.Tree.{ModuleTree, Callee, used_callees}
 use Rattle.meaning.specs.Procedures.{Procedure, procedure_of, is_there}
 use Rattle.meaning.specs.Program.{IsProgram}
-use Rattle.c_tree.specs.Code.{Fun, Item}
+use Rattle.c_tree.specs.Code.{Fun, Item, external, global, declared, defined}
 use Rattle.c_tree.specs.Names.{function_name, maker_name, initializer_name}
-use Rattle.c_meaning.specs.Checked.{Signature, signature_of, agrees, item_fits, items_fit, defined_names}
+use Rattle.c_meaning.specs.Plain.{Signature, signature_of, agrees, item_fits, items_fit, defined_names}
 use Rattle.c_meaning.specs.Program.{functions_of}
 use Rattle.plan_rules.specs.Joined.{Part}
 use Rattle.plan_rules.specs.Translation.{Name, TrFunction, IsEmpty, TrForms, c_name_of, outside_of, is_sound_with, Translated}
 use Rattle.simulation.specs.Law.{AreTranslated}
-use Rattle.simulation.proofs.Members.{Has, all_have, named_there}
+use Rattle.simulation.proofs.Members.{Has, all_have}
 use Rattle.simulation.proofs.Links.{placed}
-use Rattle.simulation.proofs.Found.{names_of_functions, Defined, function_defined, maker_defined, initializer_defined, Unit_of, unit_of}
+use Rattle.simulation.proofs.Found.{Defined, function_defined, maker_defined, initializer_defined, Unit_of, unit_of}
 use Rattle.simulation.proofs.Signatures.{or_later, after, fit_both, defined_both}
 use Rattle.simulation.proofs.Extended.{AreAmong, item_kept}
 use Rattle.simulation.proofs.Rights.{there, AllRight, ItemsRight, after_right, both_right, right_agrees, unit_right}
@@ -38,7 +38,12 @@ defined_later xs ys n e =
     ap (list_any (is_same n)) (defined_both xs ys) ∙ list_any-append (is_same n) (defined_names xs) (defined_names ys) ∙ or_later (is_defined xs n) (is_defined ys n) e
 
 member_defined : (items : List Item) (g : Fun) → Has (functions_of items) g → is_defined items g.name ≡ true
-member_defined items g h = ap (list_any (is_same g.name)) (sym (names_of_functions items)) ∙ named_there (λ f. f.name) (functions_of items) g h
+member_defined [] g h = absurd h
+member_defined (external v ∷ is) g h = member_defined is g h
+member_defined (global v ∷ is) g h = or_later (is_same g.name v.name) (is_defined is g.name) (member_defined is g h)
+member_defined (declared t n ps ∷ is) g h = member_defined is g h
+member_defined (defined f ∷ is) g (inl e) = ap (λ b. b || is_defined is g.name) ((bytes_decides g.name f.name).1 (ap (λ x. x.name) (sym e)))
+member_defined (defined f ∷ is) g (inr h) = or_later (is_same g.name f.name) (is_defined is g.name) (member_defined is g h)
 
 module _ (program : List ModuleTree) (parts : List Part) (units : AreTranslated program parts) where
   -- what the unit of a module defines
@@ -70,13 +75,14 @@ module _ (program : List ModuleTree) (parts : List Part) (units : AreTranslated 
 fit_behind : (program : List ModuleTree) → IsProgram program → (names more : List Name) → AreAmong names more → (items : List Item) (sigs before : List Signature) → ItemsRight program items → AllRight program (sigs ++ before) → items_fit names sigs items ≡ true → items_fit more (sigs ++ before) items ≡ true
 fit_behind program is names more among [] sigs before right all e = refl
 fit_behind program is names more among (i ∷ items) sigs before right all e =
-    let parts = and_parts (agrees sigs (signature_of i) && item_fits names sigs i) (items_fit names (signature_of i ∷ sigs) items) e in
-    let here = and_parts (agrees sigs (signature_of i)) (item_fits names sigs i) parts.0 in
-    and_from (agrees (sigs ++ before) (signature_of i) && item_fits more (sigs ++ before) i) (items_fit more (signature_of i ∷ (sigs ++ before)) items)
-    (and_from (agrees (sigs ++ before) (signature_of i)) (item_fits more (sigs ++ before) i)
+    let new = signature_of i ∷ sigs in
+    let parts = and_parts (agrees sigs (signature_of i) && item_fits names new i) (items_fit names new items) e in
+    let here = and_parts (agrees sigs (signature_of i)) (item_fits names new i) parts.0 in
+    and_from (agrees (sigs ++ before) (signature_of i) && item_fits more (new ++ before) i) (items_fit more (new ++ before) items)
+    (and_from (agrees (sigs ++ before) (signature_of i)) (item_fits more (new ++ before) i)
     (right_agrees program is.formed (sigs ++ before) (signature_of i) all right.0)
-    (item_kept names more sigs before among i here.1))
-    (fit_behind program is names more among items (signature_of i ∷ sigs) before right.1 (right.0, all) parts.1)
+    (item_kept names more new before among i here.1))
+    (fit_behind program is names more among items new before right.1 (right.0, all) parts.1)
 
 -- the functions of other modules that a unit calls are defined
 outside_among : (program : List ModuleTree) (more : List Name) → ((c : Callee) (q : Procedure) → procedure_of program (Some c) ≡ Some q → list_any (is_same (c_name_of c)) more ≡ true) → (cs : List Callee) → list_all (is_there program) cs ≡ true → AreAmong (map c_name_of cs) more

@@ -5,7 +5,7 @@ use Rattle.core_tree.specs.Tree.{ModuleTree, Callee}
 use Rattle.meaning.specs.Program.{src, IsProgram}
 use Rattle.c_tree.specs.Spelling.{NamedItems}
 use Rattle.c_meaning.specs.Program.{cm}
-use Rattle.c_meaning.specs.Checked.{IsChecked}
+use Rattle.c_meaning.specs.Plain.{IsPlain}
 use Rattle.plan_rules.specs.Joined.{Part, joined}
 use Rattle.plan_rules.specs.Translation.{Translated}
 
@@ -21,7 +21,7 @@ AreTranslated ms ps = AllZip IsUnitOf ms ps
 -- what the linked program of modules is
 pub record IsFaithful (program : List ModuleTree) (parts : List Part) (main : Callee) : Type 0 where
   pub named : NamedItems (joined parts main)
-  pub checked : IsChecked (joined parts main)
+  pub plain : IsPlain (joined parts main)
   pub same : (input : List ℕ) (args : List (List ℕ)) (turns : ℕ) → cm (joined parts main) input args turns ≡ src program input args turns
 
 unfoldable pub KeepsMeaning : Type 0

@@ -8,6 +8,7 @@ use Rattle.core_tree.specs.Tree.{ModuleTree}
 use Rattle.core_tree.specs.WellFormed.{IsWellFormed}
 use Rattle.meaning.specs.Order.{imports_of, IsOrder, root_of, chosen}
 use Rattle.meaning.specs.Program.{src, main_of, IsProgram}
+use Rattle.c_meaning.proofs.PlainChecked.{plain_is_checked, plain_is_runnable}
 use Rattle.plan_rules.specs.Joined.{joined}
 use Rattle.simulation.specs.Law.{IsFaithful, KeepsMeaning}
 use Rattle.object_text.specs.Format.{ObjectTree}
@@ -88,10 +89,12 @@ module _ (law : KeepsMeaning) (sources texts : List (List ℕ)) (text : List ℕ
   means : (others : List (List ℕ)) → IsPermutation sources others → MeansSources others text
   means others p =
       let have = program_in_any_order sources ms read link l.root is_root l.order is_order others p in
+      let items = joined (map part_of (chosen l.objects l.order)) l.main in
       record {
-        items = joined (map part_of (chosen l.objects l.order)) l.main;
+        items = items;
         text = l.is_text;
-        checked = faithful.checked;
+        checked = plain_is_checked items faithful.named faithful.plain;
+        runnable = plain_is_runnable items faithful.named faithful.plain;
         program = chosen ms l.order;
         is_program = have.is_program;
         same = λ programs is input args turns. faithful.same input args turns ∙ ap (λ (q : List ModuleTree). src q input args turns) (sym (have.only programs is));

@@ -12,6 +12,7 @@ use Rattle.c_tree.specs.Code.{Item}
 use Rattle.c_tree.specs.Spelling.{CText}
 use Rattle.c_meaning.specs.Program.{cm}
 use Rattle.c_meaning.specs.Checked.{IsChecked}
+use Rattle.c_meaning.specs.Runnable.{IsRunnable}
 use Rattle.resolver.specs.Elaboration.{elaborated}
 use Rattle.unit_compile.specs.Compilation.{IsInterfaceOf}
 
@@ -48,11 +49,12 @@ pub record IsProgramOf (sources : List (List ℕ)) (program : List ModuleTree) :
   pub is_order : IsOrder (imports_in modules) root order
   pub is : program ≡ chosen modules order
 
--- the bytes are a text that means what the sources mean together: it breaks no rule of C, and for every input, arguments and number of turns it prints and ends as their program does by its plain meaning
+-- the bytes are a text that means what the sources mean together: it breaks no rule of C and is of the forms that the machine does so far, and for every input, arguments and number of turns it prints and ends as their program does by its plain meaning
 pub record MeansSources (sources : List (List ℕ)) (bytes : List ℕ) : Type 0 where
   pub items : List Item
   pub text : CText bytes items
   pub checked : IsChecked items
+  pub runnable : IsRunnable items
   pub program : List ModuleTree
   pub is_program : IsProgramOf sources program
   pub same : (others : List ModuleTree) → IsProgramOf sources others → (input : List ℕ) (args : List (List ℕ)) (turns : ℕ) → cm items input args turns ≡ src others input args turns

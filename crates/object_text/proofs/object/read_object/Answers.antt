@@ -18,10 +18,10 @@ pub returns-in-Err-NotC-clause-answer : goal.returns-in-Err-NotC-clause-answer
 returns-in-Err-NotC-clause-answer c o t =
     let only = rw c.in-Some.is at c.in_ok-header.ensures.only in
     let none = rw c.in-Err-NotC.field-0-is at c.in-Err-NotC.ensures.answer in
-    none o.items (unit_text c.args.b.now c.in-Some.header only o t)
+    none.no_tree o.items (unit_text c.args.b.now c.in-Some.header only o t)
 
 pub returns-in-Err-NotC-clause-given : goal.returns-in-Err-NotC-clause-given
 returns-in-Err-NotC-clause-given c o t =
     let only = rw c.in-Some.is at c.in_ok-header.ensures.only in
     let none = rw c.in-Err-NotC.field-0-is at c.in-Err-NotC.ensures.answer in
-    none o.items (unit_text c.args.b.now c.in-Some.header only o t)
+    none.no_tree o.items (unit_text c.args.b.now c.in-Some.header only o t)
