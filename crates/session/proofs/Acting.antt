@@ -152,7 +152,7 @@ run_performs p turns args h rest None new (Ok end) stands told = tt
 run_performs p turns args h rest None new (Err e) stands told = tt
 run_performs p turns args h rest (Some o) new (Ok end) stands told =
     (printed told.0, ((told.0, (run_means h.kind h.bytes (p ∷ args) turns told.0 stands told.1.0, refl, ap (λ (e : End). Ran e) told.1.1)), told.1.2))
-run_performs p turns args h rest (Some o) new (Err (Refused r)) stands told = ((told.0, told.1), told.2)
+run_performs p turns args h rest (Some o) new (Err (Refused r)) stands told = (told.0, told.1)
 run_performs p turns args h rest (Some o) new (Err WriteFault) stands told = run_cut p turns args h rest o new stands told
 run_performs p turns args h rest (Some o) new (Err Memory) stands (inl same) = ([], (inl refl, same ∙ ap (λ (l : Bytes). Some l) (sym (append-nil o))))
 run_performs p turns args h rest (Some o) new (Err Memory) stands (inr told) = run_cut p turns args h rest o new stands told

@@ -1,5 +1,5 @@
 -- A run of a text, in its steps.
-use Rattle.std.proofs.Common.{◌≡◌, ℕ, List, ◌++◌, Option, Some, None, Result, Ok, Err, inl, inr, refl, ap, sym, ◌∙◌, subst, append_assoc}
+use Rattle.std.proofs.Common.{◌≡◌, ℕ, List, ◌++◌, false, Option, Some, None, Result, Ok, Err, inl, inr, refl, ap, sym, ◌∙◌, subst, append_assoc}
 use Rattle.base_io.specs.Contents.{Bytes}
 use Rattle.base_io.specs.Observation.{Observation}
 use Rattle.base_io.specs.declared.end.End.{End}
@@ -8,6 +8,9 @@ use Rattle.c_tree.specs.Code.{Item}
 use Rattle.c_tree.specs.declared.function.CProgram.{CProgram}
 use Rattle.c_meaning.specs.Program.{cm}
 use Rattle.c_meaning.specs.Checked.{IsChecked}
+use Rattle.c_meaning.specs.Runnable.{is_runnable, IsRunnable}
+use Rattle.c_tree.specs.Functions.{items_of}
+use Rattle.session.specs.declared.answer.Refusal.TheVariants.{NotBuilt, Syntax, Limit, NotC, BadC, MissingModule, MissingName}
 use Rattle.c_machine.specs.Runs.{Ran}
 use Rattle.base_io.specs.declared.end.RunErr.TheVariants as run
 use Rattle.session.specs.declared.errors.MakeErr.{MakeErr}
@@ -15,8 +18,8 @@ use Rattle.session.specs.declared.errors.MakeErr.TheVariants as make
 use Rattle.session.specs.declared.errors.WorkErr.{WorkErr}
 use Rattle.session.specs.Halts.{work_of_make, work_of_run}
 use Rattle.base_io.specs.Writing.{PutAll}
-use Rattle.session.specs.Works.{IsProgramText, TextRuns, NotRun, last_line, no_input}
-use Rattle.session.specs.Done.{HasTree, ProgramRead, Loaded, RanTo, TextRan}
+use Rattle.session.specs.Works.{IsProgramText, TextRuns, RunRefuses, last_line, no_input}
+use Rattle.session.specs.Done.{HasTree, ProgramRead, ProgramChecked, Loaded, RanTo, TextRan}
 
 -- the machine failed
 pub machine_failed : (old new : Option Bytes) (seen : Observation) (e : RunErr) → Ran old new seen (Err e) → RanTo old new seen (Err e)
@@ -59,7 +62,7 @@ text_cut old new bytes items args turns e r program told is = subst (λ (x : Res
 -- no program was loaded
 not_loaded : (old : Option Bytes) (bytes : Bytes) (args : List Bytes) (turns : ℕ) (e : MakeErr) → Loaded bytes (Err e) → TextRan old old bytes args turns (Err (work_of_make e))
 not_loaded None bytes args turns e told = tt
-not_loaded (Some o) bytes args turns (make.Refused r) told = (told.0, told.1, refl)
+not_loaded (Some o) bytes args turns (make.Refused r) told = (told, refl)
 not_loaded (Some o) bytes args turns make.Memory told = inl refl
 
 pub text_not_loaded : (old : Option Bytes) (bytes : Bytes) (args : List Bytes) (turns : ℕ) (e : MakeErr) (r : Result End WorkErr) → Loaded bytes (Err e) → r ≡ Err (work_of_make e) → TextRan old old bytes args turns r
@@ -71,8 +74,24 @@ pub not_read : (bytes : Bytes) (e : MakeErr) (r : Result CProgram MakeErr) → P
 not_read bytes e r told is = subst (λ (x : Result CProgram MakeErr). Loaded bytes x) (sym is) (go e told)
   where
     go : (e : MakeErr) → ProgramRead bytes (Err e) → Loaded bytes (Err e)
-    go (make.Refused r) told = (told.0, λ items text checked. told.1 items text)
+    go (make.Refused r) told = told
     go make.Memory told = tt
 
-pub not_checked : (bytes : Bytes) (items : List Item) → HasTree bytes items → (IsChecked items → ⊥) → NotRun bytes
-not_checked bytes items tree not = λ others text checked. not (subst (λ (l : List Item). IsChecked l) (tree.only others text) checked)
+pub not_checked : (bytes : Bytes) (p : CProgram) (e : MakeErr) (r : Result CProgram MakeErr) → HasTree bytes (items_of p.items) → ProgramChecked p (Err e) → r ≡ Err e → Loaded bytes r
+not_checked bytes p e r tree told is = subst (λ (x : Result CProgram MakeErr). Loaded bytes x) (sym is) (go e told)
+  where
+    go : (e : MakeErr) → ProgramChecked p (Err e) → Loaded bytes (Err e)
+    go (make.Refused (BadC name cause)) told = record { items = items_of p.items; text = tree.text; first = told }
+    go (make.Refused NotBuilt) told = absurd told
+    go (make.Refused (Syntax at)) told = absurd told
+    go (make.Refused (Limit kind)) told = absurd told
+    go (make.Refused (NotC at)) told = absurd told
+    go (make.Refused (MissingModule n m)) told = absurd told
+    go (make.Refused (MissingName n m name)) told = absurd told
+    go make.Memory told = tt
+
+pub not_runnable : (bytes : Bytes) (items : List Item) → HasTree bytes items → IsChecked items → is_runnable items ≡ false → RunRefuses bytes NotBuilt
+not_runnable bytes items tree checked beyond = record { items = items; text = tree.text; checked = checked; beyond = beyond }
+
+pub loaded : (bytes : Bytes) (items : List Item) → HasTree bytes items → IsChecked items → IsRunnable items → IsProgramText bytes items
+loaded bytes items tree checked runnable = record { text = tree.text; checked = checked; runnable = runnable; only = tree.only }

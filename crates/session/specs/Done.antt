@@ -17,12 +17,14 @@ use Rattle.linker.specs.declared.linking.LinkErr.TheVariants as linking
 use Rattle.linker.specs.Links.{Linked}
 use Rattle.commands.specs.declared.command.Command.{Command}
 use Rattle.session.specs.declared.answer.Effect.{Effect}
-use Rattle.session.specs.declared.answer.Refusal.TheVariants.{NotBuilt, Syntax, Limit, MissingModule, MissingName}
+use Rattle.session.specs.declared.answer.Refusal.{Refusal}
+use Rattle.c_meaning.specs.Checked.{IsChecked, IsFirstBreach, breach}
+use Rattle.session.specs.declared.answer.Refusal.TheVariants.{NotBuilt, Syntax, Limit, BadC, MissingModule, MissingName}
 use Rattle.session.specs.declared.errors.MakeErr.{MakeErr}
 use Rattle.session.specs.declared.errors.MakeErr.TheVariants as make
 use Rattle.session.specs.declared.errors.WorkErr.{WorkErr}
 use Rattle.session.specs.declared.errors.WorkErr.TheVariants as work
-use Rattle.session.specs.Works.{Held, Gives, Refuses, MayAdd, IsProgramText, TextRuns, printed, ExportRefuses, CompileRefuses, LinkRefuses, NotRun}
+use Rattle.session.specs.Works.{Held, Gives, Refuses, MayAdd, IsProgramText, TextRuns, printed, ExportRefuses, CompileRefuses, LinkRefuses, RunRefuses}
 
 -- why nothing is made of a source
 abbrev pub make_err_of : UnitErr → MakeErr
@@ -60,14 +62,24 @@ pub record HasTree (bytes : Bytes) (items : List Item) : Type 0 where
   pub text : CText bytes items
   pub only : (others : List Item) → CText bytes others → others ≡ items
 
+abbrev pub BreaksRule : List Item → Refusal → Type 0
+BreaksRule items (BadC name cause) = IsFirstBreach items (breach name cause)
+BreaksRule items _ = ⊥
+
 abbrev pub ProgramRead : Bytes → Result CProgram MakeErr → Type 0
 ProgramRead bytes (Ok p) = HasTree bytes (items_of p.items)
-ProgramRead bytes (Err (make.Refused r)) = (r ≡ NotBuilt) × ((items : List Item) → CText bytes items → ⊥)
+ProgramRead bytes (Err (make.Refused r)) = RunRefuses bytes r
 ProgramRead bytes (Err make.Memory) = Unit {0}
+
+-- the program itself where it breaks no rule, or its first breach
+abbrev pub ProgramChecked : CProgram → Result CProgram MakeErr → Type 0
+ProgramChecked p (Ok c) = (c ≡ p) × IsChecked (items_of p.items)
+ProgramChecked p (Err (make.Refused r)) = BreaksRule (items_of p.items) r
+ProgramChecked p (Err make.Memory) = Unit {0}
 
 abbrev pub Loaded : Bytes → Result CProgram MakeErr → Type 0
 Loaded bytes (Ok p) = IsProgramText bytes (items_of p.items)
-Loaded bytes (Err (make.Refused r)) = (r ≡ NotBuilt) × NotRun bytes
+Loaded bytes (Err (make.Refused r)) = RunRefuses bytes r
 Loaded bytes (Err make.Memory) = Unit {0}
 
 -- where the sink tells: all that the run writes, or a part of it
@@ -83,7 +95,7 @@ CutRun old new bytes args turns = (seen : Observation) × (TextRuns bytes args t
 abbrev pub TextRan : Option Bytes → Option Bytes → Bytes → List Bytes → ℕ → Result End WorkErr → Type 0
 TextRan None new bytes args turns result = Unit {0}
 TextRan (Some old) new bytes args turns (Ok end) = (seen : Observation) × (TextRuns bytes args turns seen × (end ≡ seen.end) × (new ≡ Some (old ++ printed seen)))
-TextRan (Some old) new bytes args turns (Err (work.Refused r)) = (r ≡ NotBuilt) × NotRun bytes × (new ≡ Some old)
+TextRan (Some old) new bytes args turns (Err (work.Refused r)) = RunRefuses bytes r × (new ≡ Some old)
 TextRan (Some old) new bytes args turns (Err work.WriteFault) = CutRun old new bytes args turns
 TextRan (Some old) new bytes args turns (Err work.Memory) = (new ≡ Some old) ⊎ CutRun old new bytes args turns
 

@@ -3,12 +3,14 @@ use Rattle.std.specs.Prelude.{ℕ, ◌-◌, [], ◌++◌, length, slice_get, cod
 use Rattle.base_io.specs.Contents.{Bytes}
 use Rattle.base_io.specs.declared.end.End.{End}
 use Rattle.base_io.specs.declared.end.End.TheVariants.{Ended, Raised, Spent, Fault}
+use Rattle.c_meaning.specs.Breaches.{cause_name}
 use Rattle.scheme_data.specs.Decimal.{decimal_text}
+use Rattle.scheme_data.specs.declared.datum.Place.{Place}
 use Rattle.scheme_data.specs.declared.datum.LimitKind.TheVariants.{Bytes as TheBytes, Depth}
 use Rattle.session.specs.declared.answer.Answer.{Answer}
 use Rattle.session.specs.declared.answer.Answer.TheVariants as answer
 use Rattle.session.specs.declared.answer.Refusal.{Refusal}
-use Rattle.session.specs.declared.answer.Refusal.TheVariants.{NotBuilt, Syntax, Limit, MissingModule, MissingName}
+use Rattle.session.specs.declared.answer.Refusal.TheVariants.{NotBuilt, Syntax, Limit, NotC, BadC, MissingModule, MissingName}
 
 -- The status --------------------------------------------------------------------------------
 
@@ -40,11 +42,16 @@ status_of answer.Memory = 248
 abbrev pub line_words : ℕ → Bytes
 line_words number = codes "line " ++ decimal_text number
 
+abbrev pub place_words : Place → Bytes
+place_words at = decimal_text at.line ++ codes ":" ++ decimal_text at.column
+
 abbrev pub refusal_words : Refusal → Bytes
 refusal_words NotBuilt = codes ": refusal 0"
-refusal_words (Syntax at) = codes ": refusal 1 " ++ decimal_text at.line ++ codes ":" ++ decimal_text at.column
+refusal_words (Syntax at) = codes ": refusal 1 " ++ place_words at
 refusal_words (Limit TheBytes) = codes ": refusal 2 Bytes"
 refusal_words (Limit Depth) = codes ": refusal 2 Depth"
+refusal_words (NotC at) = codes ": refusal 14 " ++ place_words at
+refusal_words (BadC name cause) = codes ": refusal 15 " ++ name ++ codes " " ++ cause_name cause
 refusal_words (MissingModule n m) = codes ": refusal 17 " ++ decimal_text n ++ codes " " ++ m
 refusal_words (MissingName n m name) = codes ": refusal 18 " ++ decimal_text n ++ codes " " ++ m ++ codes " " ++ name
 

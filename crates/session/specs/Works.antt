@@ -1,5 +1,5 @@
 -- What each command reads, writes, gives and refuses. A further command adds its equations here.
-use Rattle.std.specs.Prelude.{◌≡◌, ◌⊎◌, ℕ, List, [], ◌∷◌, ◌++◌, map, codes, Option, Some, None}
+use Rattle.std.specs.Prelude.{◌≡◌, ◌⊎◌, ℕ, List, [], ◌∷◌, ◌++◌, map, codes, false, Option, Some, None}
 use Rattle.std.specs.List.{AllByRecursion}
 use Rattle.scheme_data.specs.Decimal.{decimal_text}
 use Rattle.scheme_data.specs.declared.datum.Place.{Place}
@@ -14,7 +14,10 @@ use Rattle.meaning.specs.Program.{src}
 use Rattle.c_tree.specs.Code.{Item}
 use Rattle.c_tree.specs.Spelling.{CText}
 use Rattle.c_meaning.specs.Program.{cm}
-use Rattle.c_meaning.specs.Checked.{IsChecked}
+use Rattle.c_meaning.specs.declared.breach.BadCause.{BadCause}
+use Rattle.c_meaning.specs.Checked.{IsChecked, IsFirstBreach, breach}
+use Rattle.c_meaning.specs.Runnable.{is_runnable, IsRunnable}
+use Rattle.c_read.specs.Answers.{IsNoText}
 use Rattle.unit_compile.specs.Compilation.{Exported, NotExported, Compiled, NotCompiled}
 use Rattle.linker.specs.declared.linking.LinkErr.TheVariants as linking
 use Rattle.linker.specs.Links.{Linked, NotLinked}
@@ -23,7 +26,7 @@ use Rattle.whole_program.specs.Law.{Compilation, sources_of, IsLinkedFrom}
 use Rattle.commands.specs.declared.command.Command.{Command}
 use Rattle.commands.specs.declared.command.Command.TheVariants.{Blank, Iface, Compile, Link, Run}
 use Rattle.session.specs.declared.answer.Refusal.{Refusal}
-use Rattle.session.specs.declared.answer.Refusal.TheVariants.{NotBuilt, Syntax, Limit, MissingModule, MissingName}
+use Rattle.session.specs.declared.answer.Refusal.TheVariants.{NotBuilt, Syntax, Limit, NotC, BadC, MissingModule, MissingName}
 use Rattle.session.specs.declared.answer.Effect.{Effect}
 use Rattle.session.specs.declared.answer.Effect.TheVariants.{Nothing, Wrote, Ran}
 
@@ -132,10 +135,11 @@ printed seen = seen.output ++ last_line seen.end
 abbrev pub no_input : Bytes
 no_input = []
 
--- the bytes are the text of one program, which breaks no rule
+-- the bytes are the text of one program, which breaks no rule and has forms that the machine does
 pub record IsProgramText (bytes : Bytes) (items : List Item) : Type 0 where
   pub text : CText bytes items
   pub checked : IsChecked items
+  pub runnable : IsRunnable items
   pub only : (others : List Item) → CText bytes others → others ≡ items
 
 -- a run of what these bytes say
@@ -193,6 +197,8 @@ abbrev pub ExportRefuses : Bytes → Refusal → Type 0
 ExportRefuses source NotBuilt = NotExported source
 ExportRefuses source (Syntax at) = IsFault source (reading.Syntax at)
 ExportRefuses source (Limit kind) = (at : Place) × IsFault source (reading.Limit kind at)
+ExportRefuses source (NotC at) = ⊥
+ExportRefuses source (BadC name cause) = ⊥
 ExportRefuses source (MissingModule n m) = ⊥
 ExportRefuses source (MissingName n m name) = ⊥
 
@@ -200,6 +206,8 @@ abbrev pub CompileRefuses : Bytes → List Bytes → Refusal → Type 0
 CompileRefuses source texts NotBuilt = NotCompiled source texts
 CompileRefuses source texts (Syntax at) = IsFault source (reading.Syntax at)
 CompileRefuses source texts (Limit kind) = (at : Place) × IsFault source (reading.Limit kind at)
+CompileRefuses source texts (NotC at) = ⊥
+CompileRefuses source texts (BadC name cause) = ⊥
 CompileRefuses source texts (MissingModule n m) = ⊥
 CompileRefuses source texts (MissingName n m name) = ⊥
 
@@ -208,11 +216,33 @@ abbrev pub LinkRefuses : List Bytes → Refusal → Type 0
 LinkRefuses objects NotBuilt = NotLinked objects linking.NotBuilt
 LinkRefuses objects (Syntax at) = ⊥
 LinkRefuses objects (Limit kind) = ⊥
+LinkRefuses objects (NotC at) = ⊥
+LinkRefuses objects (BadC name cause) = ⊥
 LinkRefuses objects (MissingModule n m) = NotLinked objects (linking.MissingModule n m)
 LinkRefuses objects (MissingName n m name) = NotLinked objects (linking.MissingName n m name)
 
-abbrev pub NotRun : Bytes → Type 0
-NotRun bytes = (items : List Item) → CText bytes items → IsChecked items → ⊥
+-- a program whose first breach is this one
+pub record IsBad (bytes : Bytes) (name : Bytes) (cause : BadCause) : Type 0 where
+  pub items : List Item
+  pub text : CText bytes items
+  pub first : IsFirstBreach items (breach name cause)
+
+-- a checked program with a form that the machine can't do yet
+pub record IsNotBuilt (bytes : Bytes) : Type 0 where
+  pub items : List Item
+  pub text : CText bytes items
+  pub checked : IsChecked items
+  pub beyond : is_runnable items ≡ false
+
+-- a program is refused where its text is at fault, for its first breach, or as not built
+abbrev pub RunRefuses : Bytes → Refusal → Type 0
+RunRefuses bytes NotBuilt = IsNotBuilt bytes
+RunRefuses bytes (NotC at) = IsNoText bytes at
+RunRefuses bytes (BadC name cause) = IsBad bytes name cause
+RunRefuses bytes (Syntax at) = ⊥
+RunRefuses bytes (Limit kind) = ⊥
+RunRefuses bytes (MissingModule n m) = ⊥
+RunRefuses bytes (MissingName n m name) = ⊥
 
 -- the command refuses what was read for it
 unfoldable pub Refuses : Command → List Held → Refusal → Type 0
@@ -223,4 +253,4 @@ Refuses (Compile source out ifaces) [] refusal = ⊥
 Refuses (Compile source out ifaces) (h ∷ hs) refusal = CompileRefuses h.bytes (bytes_of hs) refusal
 Refuses (Link out objects) hs refusal = LinkRefuses (bytes_of hs) refusal
 Refuses (Run program turns args) [] refusal = ⊥
-Refuses (Run program turns args) (h ∷ hs) refusal = (refusal ≡ NotBuilt) × NotRun h.bytes
+Refuses (Run program turns args) (h ∷ hs) refusal = RunRefuses h.bytes refusal

@@ -4,17 +4,22 @@ ghost use Rattle.session.specs.Scripts.{answer_of, answer_of_stop};
 
 use crate::errors::{Halt, Stop};
 use base_io::{End, Ends};
+use c_meaning::BadCause;
 use scheme_data::{LimitKind, Place, Text};
 
 /// Why a line is refused. Objects of a link are numbered from 1.
 #[derive(Drop, Debug)]
 pub enum Refusal {
-    /// It wants what isn't built, as do objects and programs that aren't read.
+    /// It wants what isn't built: in a program, a form that the machine can't do yet.
     NotBuilt,
     /// Its source is no text of data, and is at fault here.
     Syntax(Place),
     /// Its source, or the script, has more than may be.
     Limit(LimitKind),
+    /// Its program is no C text, and no text could go on here.
+    NotC(Place),
+    /// Its program breaks a rule of checked C, first in this function or declaration, or by the want of this name, for this cause.
+    BadC(Text, BadCause),
     /// The object of this number imports a module that no object has.
     MissingModule(u64, Text),
     /// The object of this number used a name of a module, which doesn't export it now.

@@ -1,10 +1,11 @@
 // What the program says of its answer: a status and one line.
 ghost use Rattle.std.specs.Prelude.{◌≡◌, ◌++◌, codes, IfOk};
 ghost use Rattle.scheme_data.specs.Decimal.{decimal_text};
-ghost use Rattle.session.specs.Messages.{status_of, end_status, message_of, line_words, refusal_words};
+ghost use Rattle.session.specs.Messages.{status_of, end_status, message_of, line_words, place_words, refusal_words};
 
 use crate::answer::{Answer, Refusal};
 use base_io::End;
+use c_meaning::BadCause;
 use scheme_data::{LimitKind, OutOfMemory, Place, Text, push_decimal};
 use std::alloc::Global;
 
@@ -83,13 +84,29 @@ fn name_text(alloc: Global, words: &[u8], name: &Text) -> Result<Text, OutOfMemo
     Ok(text)
 }
 
-fn fault_text(alloc: Global, number: u64, at: Place) -> Result<Text, OutOfMemory>
-    ensures { IfOk result (λ text. text ≡ line_words number ++ refusal_words (Refusal.Syntax at)) }
+// After the words comes a place.
+fn place_text(alloc: Global, number: u64, words: &[u8], at: Place) -> Result<Text, OutOfMemory>
+    ensures { IfOk result (λ text. text ≡ line_words number ++ (words.now ++ place_words at)) }
 {
-    let mut text = line_text(alloc, number, b": refusal 1 ")?;
+    let mut text = line_text(alloc, number, words)?;
     push_decimal(&mut text, at.line as u64)?;
     text.push(b':')?;
     push_decimal(&mut text, at.column as u64)?;
+    Ok(text)
+}
+
+fn breach_text(
+    alloc: Global,
+    number: u64,
+    name: &Text,
+    cause: BadCause,
+) -> Result<Text, OutOfMemory>
+    ensures { IfOk result (λ text. text ≡ line_words number ++ refusal_words (Refusal.BadC name.now cause)) }
+{
+    let mut text = line_text(alloc, number, b": refusal 15 ")?;
+    text.extend(name.as_bytes())?;
+    text.push(b' ')?;
+    text.extend(cause.name())?;
     Ok(text)
 }
 
@@ -130,9 +147,11 @@ fn refusal_text(alloc: Global, number: u64, refusal: &Refusal) -> Result<Text, O
 {
     match refusal {
         Refusal::NotBuilt => line_text(alloc, number, b": refusal 0"),
-        Refusal::Syntax(at) => fault_text(alloc, number, *at),
+        Refusal::Syntax(at) => place_text(alloc, number, b": refusal 1 ", *at),
         Refusal::Limit(LimitKind::Bytes) => line_text(alloc, number, b": refusal 2 Bytes"),
         Refusal::Limit(LimitKind::Depth) => line_text(alloc, number, b": refusal 2 Depth"),
+        Refusal::NotC(at) => place_text(alloc, number, b": refusal 14 ", *at),
+        Refusal::BadC(name, cause) => breach_text(alloc, number, name, *cause),
         Refusal::MissingModule(object, module_name) => {
             missing_text(alloc, number, b": refusal 17 ", *object, module_name)
         }

@@ -6,13 +6,14 @@ ghost use Rattle.c_tree.specs.Functions.{items_of};
 ghost use Rattle.c_meaning.specs.Program.{cm};
 ghost use Rattle.base_io.specs.Writing.{PutAll};
 ghost use Rattle.session.specs.Works.{error_line, last_line, no_input};
-ghost use Rattle.session.specs.Done.{ProgramRead, Loaded, RanTo, TextRan};
+ghost use Rattle.session.specs.Done.{ProgramRead, ProgramChecked, Loaded, RanTo, TextRan};
 
 use crate::answer::Refusal;
 use crate::errors::{MakeErr, WorkErr};
 use base_io::{End, Failed, RunErr, Sink, put_all};
-use c_check::{CheckErr, check};
-use c_machine::Machine;
+use c_check::{CheckErr, Checked, check};
+use c_machine::{LoadErr, Machine};
+use c_meaning::Breach;
 use c_read::{CReadErr, read_c};
 use c_tree::CProgram;
 use scheme_data::{OutOfMemory, Text, TextList, push_decimal};
@@ -23,8 +24,20 @@ fn read_program(alloc: Global, text: &[u8]) -> Result<CProgram, MakeErr>
 {
     match read_c(alloc, text) {
         Ok(program) => Ok(program),
-        Err(CReadErr::NotC) => Err(MakeErr::Refused(Refusal::NotBuilt)),
+        Err(CReadErr::NotC(at)) => Err(MakeErr::Refused(Refusal::NotC(at))),
         Err(CReadErr::Memory) => Err(MakeErr::Memory),
+    }
+}
+
+fn check_program(alloc: Global, program: CProgram) -> Result<Checked, MakeErr>
+    ensures told { ProgramChecked program result }
+{
+    match check(alloc, program) {
+        Ok(checked) => Ok(checked),
+        Err(CheckErr::BadC(Breach { name, cause })) => {
+            Err(MakeErr::Refused(Refusal::BadC(name, cause)))
+        }
+        Err(CheckErr::Memory) => Err(MakeErr::Memory),
     }
 }
 
@@ -33,10 +46,11 @@ fn load(alloc: Global, text: &[u8]) -> Result<Machine, MakeErr>
     ensures told { Loaded text.now result }
 {
     let program = read_program(alloc, text)?;
-    match check(alloc, program) {
-        Ok(checked) => Ok(Machine::new(alloc, checked)?),
-        Err(CheckErr::NotChecked) => Err(MakeErr::Refused(Refusal::NotBuilt)),
-        Err(CheckErr::Memory) => Err(MakeErr::Memory),
+    let checked = check_program(alloc, program)?;
+    match Machine::new(alloc, checked) {
+        Ok(machine) => Ok(machine),
+        Err(LoadErr::NotRunnable) => Err(MakeErr::Refused(Refusal::NotBuilt)),
+        Err(LoadErr::Memory) => Err(MakeErr::Memory),
     }
 }
 
