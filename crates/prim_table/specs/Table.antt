@@ -19,6 +19,16 @@ type_name Bstring = codes "bstring"
 type_name Symbol = codes "symbol"
 type_name Procedure = codes "procedure"
 
+abbrev pub all_types : List Ty
+all_types = Obj ∷ Long ∷ Char ∷ Truth ∷ Pair ∷ Vector ∷ Bstring ∷ Symbol ∷ Procedure ∷ []
+
+abbrev pub is_type : List ℕ → Ty → Bool
+is_type name ty = pointwise nat_eq name (type_name ty)
+
+-- the type of an identifier
+abbrev pub type_named : List ℕ → Option Ty
+type_named name = find (is_type name) all_types
+
 pub record Row : Type 0 where
   pub name : List ℕ
   pub params : List Ty

@@ -1,5 +1,8 @@
 pub mod Constants
 pub mod Data
+pub mod Forms
+pub mod TypedNames
+pub mod TypedViews
 pub mod Decimal
 pub mod Fixnum
 pub mod Names

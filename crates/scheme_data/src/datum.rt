@@ -1,8 +1,9 @@
-ghost use Rattle.std.specs.Prelude.{◌≡◌};
+ghost use Rattle.std.specs.Prelude.{◌≡◌, IfOk};
 ghost use Rattle.scheme_data.specs.Data.{place_of};
 
-use crate::Text;
+use crate::{OutOfMemory, Text};
 use sqlite_items::{Boxed, Items};
+use std::alloc::Global;
 
 /// A place in a text: line and column, both from 1, columns in bytes.
 #[derive(Clone, Copy, Debug, PartialEq, Eq)]
@@ -16,8 +17,12 @@ pub struct Place {
 pub enum LimitKind {
     /// The bytes of a source or of a script.
     Bytes,
-    /// How deep data nest.
+    /// How deep data nest, or the lists of a core form.
     Depth,
+    /// The uses of macros that are expanded in a module.
+    Expansions,
+    /// The data in the results of these, together.
+    Filled,
 }
 
 /// A datum, with the place of its first token.
@@ -60,4 +65,37 @@ impl Datum {
             Datum::Vector(at, _) => *at,
         }
     }
+    /// A copy of it.
+    #[cycle(copy)]
+    pub fn copy(&self, alloc: Global) -> Result<Datum, OutOfMemory>
+        ensures { IfOk result (λ d. d ≡ self.now) }
+    {
+        Ok(match self {
+            Datum::Int(at, n) => Datum::Int(*at, *n),
+            Datum::Chr(at, b) => Datum::Chr(*at, *b),
+            Datum::Bool(at, t) => Datum::Bool(*at, *t),
+            Datum::Unspec(at) => Datum::Unspec(*at),
+            Datum::Str(at, text) => Datum::Str(*at, text.copy(alloc)?),
+            Datum::Sym(at, name, mark) => Datum::Sym(*at, name.copy(alloc)?, *mark),
+            Datum::List(at, ds) => Datum::List(*at, copy_all(alloc, ds.as_slice())?),
+            Datum::Dotted(at, ds, tail) => {
+                let items = copy_all(alloc, ds.as_slice())?;
+                let tail = tail.get().copy(alloc)?;
+                Datum::Dotted(*at, items, Boxed::new(alloc, tail)?)
+            }
+            Datum::Vector(at, ds) => Datum::Vector(*at, copy_all(alloc, ds.as_slice())?),
+        })
+    }
+}
+
+/// Copies of these, in their order.
+#[cycle(copy)]
+fn copy_all(alloc: Global, ds: &[Datum]) -> Result<Items<Datum>, OutOfMemory>
+    ensures { IfOk result (λ items. items ≡ ds.now) }
+{
+    let mut items = Items::new(alloc);
+    for d in ds {
+        items.push(d.copy(alloc)?)?;
+    }
+    Ok(items)
 }

@@ -9,6 +9,7 @@ mod place;
 mod stack;
 mod symbol;
 mod text;
+mod typing;
 
 pub use datum::{Datum, LimitKind, Place};
 pub use fixnum::{box_long, is_in_range, is_long, unbox_long};
@@ -18,6 +19,7 @@ pub use place::place_after;
 pub use stack::Stack;
 pub use symbol::{has_symbol_form, is_digit, is_dot, is_symbol, is_symbol_byte, symbol_len};
 pub use text::{OutOfMemory, Text};
+pub use typing::{TypedName, has_type, typed_name};
 
 #[cfg(test)]
 mod tests;

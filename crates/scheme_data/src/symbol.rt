@@ -60,7 +60,7 @@ pub fn is_dot(bytes: &[u8]) -> bool
     bytes == b".".as_slice()
 }
 
-fn begins_as_symbol(bytes: &[u8]) -> bool
+pub(crate) fn begins_as_symbol(bytes: &[u8]) -> bool
     ensures { result ≡ begins_as_symbol bytes.now }
 {
     let [first, rest @ ..] = bytes else {

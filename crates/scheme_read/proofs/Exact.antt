@@ -2,7 +2,7 @@
 use Rattle.std.proofs.Common.{◌≡◌, ℕ, List, [], ◌∷◌, ◌++◌, inl, inr, Result, Ok, Err, sym, ap, subst, ◌∙◌, append_assoc, arith}
 use Rattle.std.proofs.lemmas.List.{append-nil}
 use Rattle.scheme_data.specs.declared.datum.Place.{Place}
-use Rattle.scheme_data.specs.declared.datum.LimitKind.TheVariants.{Bytes, Depth}
+use Rattle.scheme_data.specs.declared.datum.LimitKind.TheVariants.{Bytes, Depth, Expansions, Filled}
 use Rattle.scheme_data.specs.declared.datum.Datum.{Datum}
 use Rattle.scheme_tokens.specs.declared.token.Token.{Token}
 use Rattle.scheme_data.specs.Places.{end}
@@ -113,21 +113,31 @@ sound_source : (bytes : List ℕ) (ds : List Datum) (e : ReadErr) → IsSource b
 sound_source bytes ds (Syntax at) h k = read_or_bad 200 (tokens bytes) ds (end bytes) at h.spelled k.1
 sound_source bytes ds (Limit Bytes at) h k = absurd (omega (arith, h.short, k.0))
 sound_source bytes ds (Limit Depth at) h k = read_or_deep 200 (tokens bytes) ds at h.spelled k.1
+sound_source bytes ds (Limit Expansions at) h k = k
+sound_source bytes ds (Limit Filled at) h k = k
 sound_source bytes ds Memory h k = k
 
 one_fault : (bytes : List ℕ) (e f : ReadErr) → IsFault bytes e → IsFault bytes f → e ≡ f
 one_fault bytes (Syntax at) (Syntax by) h k = ap Syntax (one_bad 200 (tokens bytes) (end bytes) at by h.1 k.1)
 one_fault bytes (Syntax at) (Limit Bytes by) h k = absurd (omega (arith, h.0, k.0))
 one_fault bytes (Syntax at) (Limit Depth by) h k = absurd (bad_or_deep 200 (tokens bytes) (end bytes) at by h.1 k.1)
+one_fault bytes (Syntax at) (Limit Expansions by) h k = absurd k
+one_fault bytes (Syntax at) (Limit Filled by) h k = absurd k
 one_fault bytes (Syntax at) Memory h k = absurd k
 one_fault bytes (Limit Bytes at) (Syntax by) h k = absurd (omega (arith, h.0, k.0))
 one_fault bytes (Limit Bytes at) (Limit Bytes by) h k = ap (Limit Bytes) (h.1 ∙ sym k.1)
 one_fault bytes (Limit Bytes at) (Limit Depth by) h k = absurd (omega (arith, h.0, k.0))
+one_fault bytes (Limit Bytes at) (Limit Expansions by) h k = absurd k
+one_fault bytes (Limit Bytes at) (Limit Filled by) h k = absurd k
 one_fault bytes (Limit Bytes at) Memory h k = absurd k
 one_fault bytes (Limit Depth at) (Syntax by) h k = absurd (bad_or_deep 200 (tokens bytes) (end bytes) by at k.1 h.1)
 one_fault bytes (Limit Depth at) (Limit Bytes by) h k = absurd (omega (arith, h.0, k.0))
 one_fault bytes (Limit Depth at) (Limit Depth by) h k = ap (Limit Depth) (one_deep 200 (tokens bytes) at by h.1 k.1)
+one_fault bytes (Limit Depth at) (Limit Expansions by) h k = absurd k
+one_fault bytes (Limit Depth at) (Limit Filled by) h k = absurd k
 one_fault bytes (Limit Depth at) Memory h k = absurd k
+one_fault bytes (Limit Expansions at) f h k = absurd h
+one_fault bytes (Limit Filled at) f h k = absurd h
 one_fault bytes Memory f h k = absurd h
 
 -- the answer is the only one

@@ -2,7 +2,7 @@
 use Rattle.std.proofs.Common.{◌≡◌, ℕ, zero, suc, ◌+◌, ◌-◌, ◌<◌, ◌≤◌, max, List, [], ◌∷◌, ◌++◌, inl, inr, Some, Err, length, drop, take, get_or, refl, sym, ap, subst, ◌∙◌, append_assoc, arith}
 use Rattle.std.proofs.lemmas.List.{append-nil, drop_more, at_drop_all, length-drop, take_all}
 use Rattle.scheme_data.specs.declared.datum.Place.{Place}
-use Rattle.scheme_data.specs.declared.datum.LimitKind.TheVariants.{Bytes, Depth}
+use Rattle.scheme_data.specs.declared.datum.LimitKind.TheVariants.{Bytes, Depth, Expansions, Filled}
 use Rattle.scheme_data.specs.declared.datum.Datum.{Datum}
 use Rattle.scheme_tokens.specs.declared.lex.Lexeme.{Lexeme}
 use Rattle.scheme_tokens.specs.declared.token.Token.{Token}
@@ -75,6 +75,8 @@ took_not bytes left t r s (Limit Depth at) n m h =
         place = h.1;
       },
     )
+took_not bytes left t r s (Limit Expansions at) n m h = absurd h
+took_not bytes left t r s (Limit Filled at) n m h = absurd h
 took_not bytes left t r s Memory n m h = tt
 
 at_end : (bytes : List ℕ) (r : Reader) → (m : IsMiddle bytes [] r) → m.front ≡ tokens bytes

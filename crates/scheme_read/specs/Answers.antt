@@ -1,7 +1,7 @@
 -- What reading a source answers.
 use Rattle.std.specs.Prelude.{◌≡◌, ℕ, ◌<◌, ◌≤◌, List, length, Result, Ok, Err}
 use Rattle.scheme_data.specs.declared.datum.Datum.{Datum}
-use Rattle.scheme_data.specs.declared.datum.LimitKind.TheVariants.{Bytes, Depth}
+use Rattle.scheme_data.specs.declared.datum.LimitKind.TheVariants.{Bytes, Depth, Expansions, Filled}
 use Rattle.scheme_data.specs.Places.{start, end}
 use Rattle.scheme_tokens.specs.Tokens.{tokens}
 use Rattle.scheme_read.specs.declared.error.ReadErr.{ReadErr}
@@ -18,6 +18,8 @@ abbrev pub IsFault : List ℕ → ReadErr → Type 0
 IsFault bytes (Syntax at) = (length bytes ≤ 1048576) × IsBadAt 200 (tokens bytes) (end bytes) at
 IsFault bytes (Limit Bytes at) = (1048576 < length bytes) × (at ≡ start)
 IsFault bytes (Limit Depth at) = (length bytes ≤ 1048576) × IsDeepAt 200 (tokens bytes) at
+IsFault bytes (Limit Expansions at) = ⊥
+IsFault bytes (Limit Filled at) = ⊥
 IsFault bytes Memory = ⊥
 
 -- what is read is a source of the data, and what is refused has that fault

@@ -1,7 +1,7 @@
 -- What each step of the reader does.
 use Rattle.std.specs.Prelude.{◌≡◌, ◌<◌, Bool, true, false, if◌then◌else◌, List, [], ◌∷◌, ◌++◌, length, Option, Some, None, Result, Ok, Err}
 use Rattle.scheme_data.specs.declared.datum.Place.{Place}
-use Rattle.scheme_data.specs.declared.datum.LimitKind.TheVariants.{Bytes, Depth}
+use Rattle.scheme_data.specs.declared.datum.LimitKind.TheVariants.{Bytes, Depth, Expansions, Filled}
 use Rattle.scheme_data.specs.declared.datum.Datum.{Datum}
 use Rattle.scheme_data.specs.declared.datum.Datum.TheVariants as datum
 use Rattle.scheme_tokens.specs.declared.token.Token.{Token}
@@ -69,6 +69,8 @@ Answers next at (Ok u) new = next ≡ Some new
 Answers next at (Err (Syntax p)) new = (next ≡ None) × (p ≡ at)
 Answers next at (Err (Limit Bytes p)) new = ⊥
 Answers next at (Err (Limit Depth p)) new = IsTooDeep next × (p ≡ at)
+Answers next at (Err (Limit Expansions p)) new = ⊥
+Answers next at (Err (Limit Filled p)) new = ⊥
 Answers next at (Err Memory) new = Unit {0}
 
 abbrev pub Began : Reader → Place → Frame → Result (Unit {0}) ReadErr → Reader → Type 0
