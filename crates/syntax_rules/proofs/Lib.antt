@@ -1,0 +1,13 @@
+pub mod Apart
+pub mod Dots
+pub mod Elements
+pub mod InStep
+pub mod Layers
+pub mod MadeRules
+pub mod Parts
+pub mod Places
+pub mod ReadLists
+pub mod Sizes
+pub mod Texts
+pub mod Worked
+pub mod RuleParts

@@ -1,0 +1,11 @@
+pub mod Answers
+pub mod Filling
+pub mod Macros
+pub mod Made
+pub mod Matching
+pub mod Patterns
+pub mod Templates
+pub mod TreeViews
+pub mod Trees
+pub mod Uses
+pub mod Views
