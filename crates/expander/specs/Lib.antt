@@ -1,0 +1,9 @@
+pub mod Scope
+pub mod Names
+pub mod Mid
+pub mod Table
+pub mod Bodies
+pub mod Rewriting
+pub mod Modules
+pub mod BadRules
+pub mod Written
