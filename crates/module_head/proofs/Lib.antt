@@ -1,6 +1,7 @@
-pub mod Adding
-pub mod Behind
-pub mod Exported
-pub mod ItemParts
+pub mod Answering
+pub mod Breaches
+pub mod ClauseSteps
+pub mod Imports
 pub mod Layers
-pub mod TypedNames
+pub mod RightHeads
+pub mod Worked

@@ -1,169 +1,284 @@
--- The head of a module, `(module NAME clause ...)` (the Bigloo manual, "Modules"). A clause is `(main f)`, at most once, `(import (name ... MODULE) ...)` or `(export (f x ...) ...)`.
-use Rattle.std.specs.Prelude.{ℕ, List, [], ◌∷◌, ◌++◌, map, codes, nat_eq, length, Bool, false, not, ◌&&◌, ◌||◌, if◌then◌else◌, Option, Some, None}
-use Rattle.std.specs.List.{list_any}
-use Rattle.scheme_data.specs.Names.{is_same, are_distinct}
-use Rattle.scheme_data.specs.Data.{Plain, Symbol, Listed, Plains, none, more}
+-- The head of a module, `(module NAME clause ...)` (the Bigloo manual, "Modules"): what its clauses say in source order, the rules as the list of their breaches, and the head where there is none.
+use Rattle.std.specs.Prelude.{ℕ, Bool, true, false, if◌then◌else◌, List, [], ◌∷◌, ◌++◌, codes, Option, Some, None}
+use Rattle.std.specs.List.{list_any, filter_map}
+use Rattle.scheme_data.specs.Names.{is_same}
+use Rattle.scheme_data.specs.Forms.{Form, Forms, atom, symbol, listed, text, end, next, form_place, form_says}
+use Rattle.scheme_data.specs.TypedNames.{Typed, typed}
+use Rattle.scheme_data.specs.declared.datum.Place.{Place}
+use Rattle.prim_table.specs.Table.{type_named}
+use Rattle.prim_table.specs.declared.types.Ty.{Ty}
+use Rattle.module_head.specs.declared.head.Head.{Head}
+use Rattle.module_head.specs.declared.head.Import.{Import}
+use Rattle.module_head.specs.declared.head.Entry.{Entry}
+use Rattle.module_head.specs.declared.head.EntryKind.{EntryKind}
+use Rattle.module_head.specs.declared.head.EntryKind.TheVariants.{Var, Fun, Inline}
+use Rattle.module_head.specs.declared.head.Param.{Param}
+use Rattle.module_head.specs.declared.head.Extern.{Extern}
+use Rattle.module_head.specs.declared.head.MainClause.{MainClause}
 
-abbrev pub is_word : List ℕ → List ℕ → Bool
-is_word name word = is_same name word
+-- Names and types -------------------------------------------------------------------------------
 
--- the name of a symbol
-abbrev pub symbol_of : Plain → Option (List ℕ)
-symbol_of (Symbol name mark) = Some name
+-- the name of a symbol, whatever its mark
+abbrev pub symbol_of : Form → Option (List ℕ)
+symbol_of (symbol at x m) = Some x
 symbol_of _ = None
-
--- whether it is the symbol of this word
-abbrev pub says : Option (List ℕ) → List ℕ → Bool
-says None word = false
-says (Some name) word = is_word name word
-
--- a name with a type holds `::`
-abbrev pub begins_type : List ℕ → Bool
-begins_type [] = false
-begins_type (b ∷ []) = false
-begins_type (b ∷ c ∷ bs) = nat_eq b 58 && nat_eq c 58
-
-abbrev pub has_type : List ℕ → Bool
-has_type [] = false
-has_type (b ∷ bs) = begins_type (b ∷ bs) || has_type bs
-
--- a module, and names that are imported from it, at least one
-pub record ImportTree : Type 0 where
-  pub module_name : List ℕ
-  pub names : List (List ℕ)
-
--- a function that is exported, and how many parameters it has
-pub record ExportTree : Type 0 where
-  pub name : List ℕ
-  pub count : ℕ
-
-pub record HeadTree : Type 0 where
-  pub name : List ℕ
-  pub imports : List ImportTree
-  pub exports : List ExportTree
-  pub main : Option (List ℕ)
-
--- Parts -------------------------------------------------------------------------------------
-
--- the name of a symbol without a type
-abbrev pub untyped : Option (List ℕ) → Option (List ℕ)
-untyped None = None
-untyped (Some name) = if has_type name then None else Some name
-
-abbrev pub name_of : Plain → Option (List ℕ)
-name_of d = untyped (symbol_of d)
 
 abbrev pub onto : {A : Type 0} → Option A → Option (List A) → Option (List A)
 onto None xs = None
 onto (Some x) None = None
 onto (Some x) (Some xs) = Some (x ∷ xs)
 
--- names without types
-abbrev pub names_of : Plains → Option (List (List ℕ))
-names_of none = Some []
-names_of (more d ds) = onto (name_of d) (names_of ds)
+-- a written type is one of the table
+abbrev pub type_of : Option (List ℕ) → Option Ty
+type_of None = None
+type_of (Some word) = type_named word
 
-abbrev pub with_name : List ℕ → Option ImportTree → Option ImportTree
-with_name x None = None
-with_name x (Some i) = Some (record { module_name = i.module_name; names = x ∷ i.names })
+abbrev pub typed_at : Place → Option Typed → Option Param
+typed_at at None = None
+typed_at at (Some t) = Some (record { at = at; name = t.name; ty = type_of t.ty })
 
--- the last of the names is the module, and there are others before it
-abbrev pub item_of : List (List ℕ) → Option ImportTree
-item_of [] = None
-item_of (x ∷ []) = None
-item_of (x ∷ m ∷ []) = Some (record { module_name = m; names = x ∷ [] })
-item_of (x ∷ y ∷ z ∷ xs) = with_name x (item_of (y ∷ z ∷ xs))
+-- a symbol `x` or `x::t`
+abbrev pub binder : Form → Option Param
+binder (symbol at x m) = typed_at at (typed x)
+binder _ = None
 
-abbrev pub some_item : Option (List (List ℕ)) → Option ImportTree
-some_item None = None
-some_item (Some xs) = item_of xs
+abbrev pub binders : Forms → Option (List Param)
+binders end = Some []
+binders (next d ds) = onto (binder d) (binders ds)
 
--- `(name ... MODULE)`; an item that is a module alone isn't built
-abbrev pub import_item : Plain → Option ImportTree
-import_item (Listed ds) = some_item (names_of ds)
+-- Items -----------------------------------------------------------------------------------------
+
+-- names of symbols
+abbrev pub names_of : Forms → Option (List (List ℕ))
+names_of end = Some []
+names_of (next d ds) = onto (symbol_of d) (names_of ds)
+
+abbrev pub last_of : List ℕ → List (List ℕ) → List ℕ
+last_of x [] = x
+last_of x (y ∷ ys) = last_of y ys
+
+abbrev pub before_last : List ℕ → List (List ℕ) → List (List ℕ)
+before_last x [] = []
+before_last x (y ∷ ys) = x ∷ before_last y ys
+
+-- the last of the names is the module, and at least one stands before it
+abbrev pub import_of : Place → Option (List (List ℕ)) → Option Import
+import_of at (Some (x ∷ y ∷ ys)) = Some (record { at = at; module_name = last_of y ys; names = Some (x ∷ before_last y ys) })
+import_of at _ = None
+
+-- a module, or `(name ... MODULE)`
+abbrev pub import_item : Form → Option Import
+import_item (symbol at x m) = Some (record { at = at; module_name = x; names = None })
+import_item (listed at ds) = import_of at (names_of ds)
 import_item _ = None
 
-abbrev pub import_items : Plains → Option (List ImportTree)
-import_items none = Some []
-import_items (more d ds) = onto (import_item d) (import_items ds)
+abbrev pub variable : Option Param → Option Entry
+variable None = None
+variable (Some x) = Some (record { at = x.at; kind = Var; name = x.name; ty = x.ty; params = [] })
 
--- `(inline f x ...)` isn't built
-abbrev pub prototype : Option (List (List ℕ)) → Option ExportTree
-prototype None = None
-prototype (Some []) = None
-prototype (Some (f ∷ xs)) = if is_word f (codes "inline") then None else Some (record { name = f; count = length xs })
+abbrev pub prototype : Place → EntryKind → Option Param → Option (List Param) → Option Entry
+prototype at kind None xs = None
+prototype at kind (Some f) None = None
+prototype at kind (Some f) (Some xs) = Some (record { at = at; kind = kind; name = f.name; ty = f.ty; params = xs })
 
--- `(f x ...)`; a variable isn't built
-abbrev pub export_item : Plain → Option ExportTree
-export_item (Listed ds) = prototype (names_of ds)
-export_item _ = None
+-- `(inline)` is a prototype of a function of that name
+abbrev pub inline_prototype : Place → Form → Forms → Option Entry
+inline_prototype at word end = prototype at Fun (binder word) (Some [])
+inline_prototype at word (next f xs) = prototype at Inline (binder f) (binders xs)
 
-abbrev pub export_items : Plains → Option (List ExportTree)
-export_items none = Some []
-export_items (more d ds) = onto (export_item d) (export_items ds)
+-- `x`, `(f x ...)` or `(inline f x ...)`
+abbrev pub entry : Form → Option Entry
+entry (symbol at x m) = variable (binder (symbol at x m))
+entry (listed at (next f xs)) = if form_says f (codes "inline") then inline_prototype at f xs else prototype at Fun (binder f) (binders xs)
+entry _ = None
 
--- Clauses -----------------------------------------------------------------------------------
+abbrev pub types : Forms → Option (List Ty)
+types end = Some []
+types (next d ds) = onto (type_of (symbol_of d)) (types ds)
 
--- the name of `(main f)`, after the word
-abbrev pub main_name : Plains → Option (List ℕ)
-main_name (more f none) = name_of f
-main_name _ = None
+abbrev pub types_in : Form → Option (List Ty)
+types_in (listed at ds) = types ds
+types_in _ = None
 
--- a head with a main function, where it has none yet
-abbrev pub first_main : List ℕ → HeadTree → Option (List ℕ) → Option HeadTree
-first_main f h None = Some (record h { main = Some f })
-first_main f h (Some g) = None
+-- the bytes of a string
+abbrev pub string_of : Form → Option (List ℕ)
+string_of (atom at (text s)) = Some s
+string_of _ = None
 
--- a head to which a clause is added in front
-abbrev pub with_main : Option (List ℕ) → HeadTree → Option HeadTree
-with_main None h = None
-with_main (Some f) h = first_main f h h.main
+abbrev pub extern_of : Place → Option Param → Option (List Ty) → Option (List ℕ) → Option Extern
+extern_of at (Some f) (Some ts) (Some c) = Some (record { at = at; name = f.name; ty = f.ty; params = ts; c_name = c })
+extern_of at _ _ _ = None
 
-abbrev pub with_imports : Option (List ImportTree) → HeadTree → Option HeadTree
-with_imports None h = None
-with_imports (Some is) h = Some (record h { imports = is ++ h.imports })
+-- `(f::t (t ...) "c_name")`
+abbrev pub extern_item : Form → Option Extern
+extern_item (listed at (next f (next ts (next c end)))) = extern_of at (binder f) (types_in ts) (string_of c)
+extern_item _ = None
 
-abbrev pub with_exports : Option (List ExportTree) → HeadTree → Option HeadTree
-with_exports None h = None
-with_exports (Some es) h = Some (record h { exports = es ++ h.exports })
+-- What the clauses say --------------------------------------------------------------------------
+
+pub data Part : Type 0 where
+  imported : Import → Part
+  exported : Entry → Part
+  kept : Entry → Part
+  foreign : Extern → Part
+  main : MainClause → Part
+  -- what stands there is no clause, or no item of its clause
+  wrong : Place → Part
+
+abbrev pub or_wrong : {A : Type 0} → Place → (A → Part) → Option A → Part
+or_wrong at part None = wrong at
+or_wrong at part (Some a) = part a
+
+abbrev pub import_part : Form → Part
+import_part d = or_wrong (form_place d) imported (import_item d)
+
+abbrev pub export_part : Form → Part
+export_part d = or_wrong (form_place d) exported (entry d)
+
+abbrev pub static_part : Form → Part
+static_part d = or_wrong (form_place d) kept (entry d)
+
+abbrev pub extern_part : Form → Part
+extern_part d = or_wrong (form_place d) foreign (extern_item d)
+
+abbrev pub each : (Form → Part) → Forms → List Part
+each f end = []
+each f (next d ds) = f d ∷ each f ds
+
+abbrev pub main_of : Place → Option (List ℕ) → Part
+main_of at None = wrong at
+main_of at (Some f) = main (record { at = at; name = f })
+
+abbrev pub only_name : Forms → Option (List ℕ)
+only_name (next f end) = symbol_of f
+only_name _ = None
+
+abbrev pub main_part : Place → Forms → Part
+main_part at ds = main_of at (only_name ds)
 
 -- the clause with this word
-abbrev pub with_clause : Option (List ℕ) → Plains → HeadTree → Option HeadTree
-with_clause word ds h =
-    if says word (codes "main") then with_main (main_name ds) h
-    else (if says word (codes "import") then with_imports (import_items ds) h
-    else (if says word (codes "export") then with_exports (export_items ds) h
-    else None))
+abbrev pub clause_of : Place → Form → Forms → List Part
+clause_of at word ds =
+    if form_says word (codes "import") then each import_part ds
+    else (if form_says word (codes "export") then each export_part ds
+    else (if form_says word (codes "static") then each static_part ds
+    else (if form_says word (codes "extern") then each extern_part ds
+    else (if form_says word (codes "main") then main_part at ds ∷ []
+    else wrong at ∷ []))))
 
-abbrev pub then_clause : Plain → Option HeadTree → Option HeadTree
-then_clause (Listed (more word ds)) (Some h) = with_clause (symbol_of word) ds h
-then_clause _ _ = None
+abbrev pub clause : Form → List Part
+clause (listed at (next word ds)) = clause_of at word ds
+clause d = wrong (form_place d) ∷ []
 
-abbrev pub bare : List ℕ → HeadTree
-bare name = record { name = name; imports = []; exports = []; main = None }
+abbrev pub clauses : Forms → List Part
+clauses end = []
+clauses (next d ds) = clause d ++ clauses ds
 
-abbrev pub clauses : List ℕ → Plains → Option HeadTree
-clauses name none = Some (bare name)
-clauses name (more d ds) = then_clause d (clauses name ds)
+-- The record ------------------------------------------------------------------------------------
 
-abbrev pub imports_itself : HeadTree → Bool
-imports_itself h = list_any (λ i. is_word i.module_name h.name) h.imports
+abbrev pub import_in : Part → Option Import
+import_in (imported i) = Some i
+import_in _ = None
 
-abbrev pub exported_names : List ExportTree → List (List ℕ)
-exported_names es = map (λ e. e.name) es
+abbrev pub export_in : Part → Option Entry
+export_in (exported e) = Some e
+export_in _ = None
 
--- a module doesn't import itself, and declares a name once
-abbrev pub is_right : HeadTree → Bool
-is_right h = not (imports_itself h) && are_distinct (exported_names h.exports)
+abbrev pub static_in : Part → Option Entry
+static_in (kept e) = Some e
+static_in _ = None
 
-abbrev pub righted : Option HeadTree → Option HeadTree
-righted None = None
-righted (Some h) = if is_right h then Some h else None
+abbrev pub extern_in : Part → Option Extern
+extern_in (foreign e) = Some e
+extern_in _ = None
 
-abbrev pub headed : Option (List ℕ) → Plains → Option HeadTree
-headed None ds = None
-headed (Some name) ds = righted (clauses name ds)
+abbrev pub main_in : Part → Option MainClause
+main_in (main m) = Some m
+main_in _ = None
 
-abbrev pub head_of : Plain → Option HeadTree
-head_of (Listed (more word (more name ds))) = if says (symbol_of word) (codes "module") then headed (name_of name) ds else None
-head_of _ = None
+abbrev pub first_of : {A : Type 0} → List A → Option A
+first_of [] = None
+first_of (a ∷ rest) = Some a
+
+abbrev pub main_clause : List Part → Option MainClause
+main_clause ps = first_of (filter_map main_in ps)
+
+abbrev pub head_with : List ℕ → List Part → Head
+head_with name ps = record {
+  name = name;
+  imports = filter_map import_in ps;
+  exports = filter_map export_in ps;
+  statics = filter_map static_in ps;
+  externs = filter_map extern_in ps;
+  main = main_clause ps;
+}
+
+-- The rules -------------------------------------------------------------------------------------
+
+pub data Breach : Type 0 where
+  header : Place → Breach
+  duplicate : List ℕ → Breach
+
+-- the name that is declared
+abbrev pub name_in : Part → Option (List ℕ)
+name_in (exported e) = Some e.name
+name_in (kept e) = Some e.name
+name_in (foreign e) = Some e.name
+name_in _ = None
+
+abbrev pub has_main : Option MainClause → Bool
+has_main None = false
+has_main (Some m) = true
+
+abbrev pub breach_if : Bool → Breach → List Breach
+breach_if true b = b ∷ []
+breach_if false b = []
+
+abbrev pub declared_once : List Part → List ℕ → List Breach
+declared_once before x = breach_if (list_any (is_same x) (filter_map name_in before)) (duplicate x)
+
+-- A module doesn't import itself, has one main function at most, and declares a name once, whatever the clause.
+abbrev pub breaches_at : List ℕ → List Part → Part → List Breach
+breaches_at name before (imported i) = breach_if (is_same i.module_name name) (header i.at)
+breaches_at name before (exported e) = declared_once before e.name
+breaches_at name before (kept e) = declared_once before e.name
+breaches_at name before (foreign e) = declared_once before e.name
+breaches_at name before (main m) = breach_if (has_main (main_clause before)) (header m.at)
+breaches_at name before (wrong at) = header at ∷ []
+
+-- in source order, with what the module says before
+abbrev pub breaches : List ℕ → List Part → List Part → List Breach
+breaches name before [] = []
+breaches name before (p ∷ ps) = breaches_at name before p ++ breaches name (before ++ p ∷ []) ps
+
+-- The whole -------------------------------------------------------------------------------------
+
+pub data Outcome : Type 0 where
+  right : Head → Outcome
+  wrong_at_first : Breach → Outcome
+
+-- the first breach decides
+abbrev pub decided : List Breach → Head → Outcome
+decided [] h = right h
+decided (b ∷ bs) h = wrong_at_first b
+
+abbrev pub head_of_parts : List ℕ → List Part → Outcome
+head_of_parts name ps = decided (breaches name [] ps) (head_with name ps)
+
+abbrev pub module_form : Place → Form → Option (List ℕ) → Forms → Outcome
+module_form at word None ds = wrong_at_first (header at)
+module_form at word (Some name) ds = if form_says word (codes "module") then head_of_parts name (clauses ds) else wrong_at_first (header at)
+
+-- the place where a text begins
+abbrev pub text_start : Place
+text_start = record { line = 1; column = 1 }
+
+-- the head that a datum says
+abbrev pub module_of : Form → Outcome
+module_of (listed at (next word (next name ds))) = module_form at word (symbol_of name) ds
+module_of d = wrong_at_first (header (form_place d))
+
+-- the head of the source with this first datum
+abbrev pub head_of : Option Form → Outcome
+head_of None = wrong_at_first (header text_start)
+head_of (Some d) = module_of d

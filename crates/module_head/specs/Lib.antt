@@ -1,5 +1,4 @@
-pub mod Forwards
+pub mod Answers
 pub mod Heads
-pub mod Parts
-pub mod Rows
-pub mod Trees
+pub mod Shapes
+pub mod Steps

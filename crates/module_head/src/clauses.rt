@@ -1,87 +1,59 @@
-// The clauses of a head, each added behind those before it.
-ghost use Rattle.std.specs.Prelude.{◌≡◌, if◌then◌else◌, IfOk, Some, None};
-ghost use Rattle.std.specs.Option.{option_copied};
-ghost use Rattle.scheme_data.specs.Data.{plain, plain_all};
-ghost use Rattle.module_head.specs.Heads.{main_name, import_items, export_items};
-ghost use Rattle.module_head.specs.Forwards.{main_behind, imports_behind, exports_behind, clause_behind};
-ghost use Rattle.module_head.specs.Trees.{head_tree};
+// The clauses of a head, in order.
+ghost use Rattle.std.specs.Prelude.{◌≡◌};
+ghost use Rattle.scheme_data.specs.Forms.{form};
+ghost use Rattle.module_head.specs.Heads.{clause, clauses};
+ghost use Rattle.module_head.specs.Shapes.{forms_of};
+ghost use Rattle.module_head.specs.Steps.{Follows, take_all, kind_of};
 
-use crate::head::Head;
-use crate::items::{export_item, import_item};
-use crate::shapes::{is_symbol, parts, untyped_name};
-use scheme_data::{Datum, OutOfMemory, Text};
+use crate::error::HeadErr;
+use crate::reading::{ItemKind, Reading};
+use crate::shapes::{parts, place, says};
+use scheme_data::Datum;
 use std::alloc::Global;
 
-/// The f of `(main f)`, from what stands behind the word.
-fn main_name(ds: &[Datum]) -> Option<&Text>
-    ensures { option_copied result ≡ main_name (plain_all ds.now) }
+/// The kind of the clause with this word; none where it has no items, or where it is the word of no clause.
+fn kind_of(word: &Datum) -> Option<ItemKind>
+    ensures { result ≡ kind_of (form word.now) }
 {
-    if ds.len() != 1 {
-        return None;
+    if says(word, b"import") {
+        Some(ItemKind::Import)
+    } else if says(word, b"export") {
+        Some(ItemKind::Export)
+    } else if says(word, b"static") {
+        Some(ItemKind::Static)
+    } else if says(word, b"extern") {
+        Some(ItemKind::Extern)
+    } else {
+        None
     }
-    untyped_name(&ds[0])
 }
 
-impl Head {
-    /// Takes the main function of a `main` clause; not where there is one, or where the clause names none.
-    fn add_main(&mut self, alloc: Global, ds: &[Datum]) -> Result<bool, OutOfMemory>
-        ensures { IfOk result (λ added. (if added then Some (head_tree self.new) else None) ≡ main_behind (head_tree self.old) (main_name (plain_all ds.now))) }
-    {
-        if self.main.is_some() {
-            return Ok(false);
-        }
-        let Some(name) = main_name(ds) else {
-            return Ok(false);
-        };
-        self.main = Some(name.copy(alloc)?);
-        Ok(true)
-    }
-
-    /// Adds the items of an `import` clause at the end; not where one is another datum.
-    fn add_imports(&mut self, alloc: Global, items: &[Datum]) -> Result<bool, OutOfMemory>
-        ensures { IfOk result (λ added. (if added then Some (head_tree self.new) else None) ≡ imports_behind (head_tree self.old) (import_items (plain_all items.now))) }
-    {
-        for d in items {
-            let Some(item) = import_item(alloc, d)? else {
-                return Ok(false);
-            };
-            self.imports.push(item)?;
-        }
-        Ok(true)
-    }
-
-    /// Adds the items of an `export` clause at the end; not where one is another datum.
-    fn add_exports(&mut self, alloc: Global, items: &[Datum]) -> Result<bool, OutOfMemory>
-        ensures { IfOk result (λ added. (if added then Some (head_tree self.new) else None) ≡ exports_behind (head_tree self.old) (export_items (plain_all items.now))) }
-    {
-        for d in items {
-            let Some(item) = export_item(alloc, d)? else {
-                return Ok(false);
-            };
-            self.exports.push(item)?;
-        }
-        Ok(true)
-    }
-
-    /// Adds a clause behind those that were read; not where it is none that is built, or a second main function.
-    pub(crate) fn add_clause(&mut self, alloc: Global, d: &Datum) -> Result<bool, OutOfMemory>
-        ensures { IfOk result (λ added. (if added then Some (head_tree self.new) else None) ≡ clause_behind (head_tree self.old) (plain d.now)) }
+impl Reading {
+    fn add_clause(&mut self, alloc: Global, d: &Datum) -> Result<(), HeadErr>
+        ensures { Follows (take_all (clause (form d.now)) self.old) result self.new }
     {
         let Some(ds) = parts(d) else {
-            return Ok(false);
+            return Err(HeadErr::Header(place(d)));
         };
-        let [word, items @ ..] = ds else {
-            return Ok(false);
+        let [word, rest @ ..] = ds else {
+            return Err(HeadErr::Header(place(d)));
         };
-        if is_symbol(word, b"main") {
-            return self.add_main(alloc, items);
+        if let Some(kind) = kind_of(word) {
+            return self.add_items(alloc, kind, rest);
         }
-        if is_symbol(word, b"import") {
-            return self.add_imports(alloc, items);
+        if says(word, b"main") {
+            return self.add_main(alloc, place(d), rest);
         }
-        if is_symbol(word, b"export") {
-            return self.add_exports(alloc, items);
+        Err(HeadErr::Header(place(d)))
+    }
+
+    /// Adds what these clauses say, until the first breach.
+    pub fn add_clauses(&mut self, alloc: Global, ds: &[Datum]) -> Result<(), HeadErr>
+        ensures { Follows (take_all (clauses (forms_of ds.now)) self.old) result self.new }
+    {
+        for d in ds {
+            self.add_clause(alloc, d)?;
         }
-        Ok(false)
+        Ok(())
     }
 }

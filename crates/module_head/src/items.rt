@@ -1,22 +1,24 @@
-// The items of `import` and `export` clauses.
+// The items of `import` and `extern` clauses.
 ghost use Rattle.std.specs.Prelude.{◌≡◌, IfOk};
-ghost use Rattle.std.specs.Option.{option_map, is_some};
-ghost use Rattle.scheme_data.specs.Data.{plain, plain_all};
-ghost use Rattle.module_head.specs.Heads.{names_of, import_item, export_item};
-ghost use Rattle.module_head.specs.Trees.{import_tree, export_tree};
+ghost use Rattle.std.specs.Option.{option_copied};
+ghost use Rattle.scheme_data.specs.Forms.{form};
+ghost use Rattle.module_head.specs.Heads.{names_of, import_of, import_item, types, types_in, extern_item};
+ghost use Rattle.module_head.specs.Shapes.{forms_of};
 
-use crate::head::{Export, Import};
-use crate::shapes::{name_is, parts, untyped_name};
-use scheme_data::{Datum, OutOfMemory, TextList};
+use crate::entries::binder;
+use crate::head::{Extern, Import};
+use crate::shapes::{parts, place, string, symbol};
+use prim_table::{Ty, type_by_name};
+use scheme_data::{Datum, List, OutOfMemory, Place, TextList};
 use std::alloc::Global;
 
-/// The names of symbols; none where a datum is no symbol, or its name has a type.
+/// The names of symbols; none where one is another datum.
 fn names(alloc: Global, ds: &[Datum]) -> Result<Option<TextList>, OutOfMemory>
-    ensures { IfOk result (λ xs. xs ≡ names_of (plain_all ds.now)) }
+    ensures { IfOk result (λ xs. xs ≡ names_of (forms_of ds.now)) }
 {
     let mut found = TextList::new(alloc);
     for d in ds {
-        let Some(name) = untyped_name(d) else {
+        let Some(name) = symbol(d) else {
             return Ok(None);
         };
         found.push(name.copy(alloc)?)?;
@@ -24,64 +26,96 @@ fn names(alloc: Global, ds: &[Datum]) -> Result<Option<TextList>, OutOfMemory>
     Ok(Some(found))
 }
 
-/// Whether each datum is a symbol whose name has no type.
-fn are_names(ds: &[Datum]) -> bool
-    ensures { result ≡ is_some (names_of (plain_all ds.now)) }
+/// Names, and the module behind them; none where one is no symbol, or where there is no name.
+fn listed_import(alloc: Global, at: Place, ds: &[Datum]) -> Result<Option<Import>, OutOfMemory>
+    ensures { IfOk result (λ i. i ≡ import_of at (names_of (forms_of ds.now))) }
 {
-    for d in ds {
-        if untyped_name(d).is_none() {
-            return false;
-        }
-    }
-    true
-}
-
-/// The item `(name ... MODULE)`; none where it is another datum.
-pub fn import_item(alloc: Global, d: &Datum) -> Result<Option<Import>, OutOfMemory>
-    ensures { IfOk result (λ i. option_map import_tree i ≡ import_item (plain d.now)) }
-{
-    let Some(ds) = parts(d) else {
-        return Ok(None);
-    };
     let Some((last, front)) = ds.split_last() else {
         return Ok(None);
     };
     if front.is_empty() {
         return Ok(None);
     }
-    let Some(module_name) = untyped_name(last) else {
+    let Some(module_name) = symbol(last) else {
         return Ok(None);
     };
     let Some(names) = names(alloc, front)? else {
         return Ok(None);
     };
     Ok(Some(Import {
+        at,
         module_name: module_name.copy(alloc)?,
-        names,
+        names: Some(names),
     }))
 }
 
-/// The item `(f x ...)`; none where it is another datum.
-pub fn export_item(alloc: Global, d: &Datum) -> Result<Option<Export>, OutOfMemory>
-    ensures { IfOk result (λ e. option_map export_tree e ≡ export_item (plain d.now)) }
+/// The item `MODULE` or `(name ... MODULE)`; none where it is another datum.
+pub fn import_item(alloc: Global, d: &Datum) -> Result<Option<Import>, OutOfMemory>
+    ensures { IfOk result (λ i. i ≡ import_item (form d.now)) }
+{
+    if let Some(ds) = parts(d) {
+        return listed_import(alloc, place(d), ds);
+    }
+    let Some(module_name) = symbol(d) else {
+        return Ok(None);
+    };
+    Ok(Some(Import {
+        at: place(d),
+        module_name: module_name.copy(alloc)?,
+        names: None,
+    }))
+}
+
+/// The types that these symbols name; none where one names no type.
+fn types(alloc: Global, ds: &[Datum]) -> Result<Option<List<Ty>>, OutOfMemory>
+    ensures { IfOk result (λ ts. ts ≡ types (forms_of ds.now)) }
+{
+    let mut found = List::new(alloc);
+    for d in ds {
+        let Some(word) = symbol(d) else {
+            return Ok(None);
+        };
+        let Some(ty) = type_by_name(word.as_bytes()) else {
+            return Ok(None);
+        };
+        found.push(ty)?;
+    }
+    Ok(Some(found))
+}
+
+fn types_in(alloc: Global, d: &Datum) -> Result<Option<List<Ty>>, OutOfMemory>
+    ensures { IfOk result (λ ts. ts ≡ types_in (form d.now)) }
 {
     let Some(ds) = parts(d) else {
         return Ok(None);
     };
-    let [first, params @ ..] = ds else {
+    types(alloc, ds)
+}
+
+/// The item `(f::t (t ...) "c_name")`; none where it is another datum.
+pub fn extern_item(alloc: Global, d: &Datum) -> Result<Option<Extern>, OutOfMemory>
+    ensures { IfOk result (λ e. e ≡ extern_item (form d.now)) }
+{
+    let Some(ds) = parts(d) else {
         return Ok(None);
     };
-    let Some(name) = untyped_name(first) else {
+    if ds.len() != 3 {
+        return Ok(None);
+    }
+    let Some(c_name) = string(&ds[2]) else {
         return Ok(None);
     };
-    if name_is(name.as_bytes(), b"inline") {
+    let Some(f) = binder(alloc, &ds[0])? else {
         return Ok(None);
-    }
-    if !are_names(params) {
+    };
+    let Some(params) = types_in(alloc, &ds[1])? else {
         return Ok(None);
-    }
-    Ok(Some(Export {
-        name: name.copy(alloc)?,
-        count: params.len(),
+    };
+    Ok(Some(Extern {
+        at: place(d),
+        name: f.name,
+        ty: f.ty,
+        params,
+        c_name: c_name.copy(alloc)?,
     }))
 }

@@ -1,10 +1,15 @@
-//! Reads the head of a module.
+//! Reads the head of a module, or finds its first breach.
 #![tactic(auto)]
 
 mod clauses;
+mod entries;
+mod error;
 mod head;
 mod items;
+mod read;
+mod reading;
 mod shapes;
 
-pub use head::{Export, Head, Import, read_head};
-pub use shapes::{is_symbol, name_has_type, name_is, parts, symbol, untyped_name};
+pub use error::HeadErr;
+pub use head::{Entry, EntryKind, Extern, Head, Import, MainClause, Param};
+pub use read::read_head;

@@ -1,15 +1,22 @@
-// The shapes of data that heads and the forms below them are made of.
+// The shapes of data that heads are made of.
 ghost use Rattle.std.specs.Prelude.{◌≡◌};
 ghost use Rattle.std.specs.Option.{option_map, option_copied};
-ghost use Rattle.scheme_data.specs.Data.{plain, plain_all};
-ghost use Rattle.module_head.specs.Heads.{is_word, symbol_of, says, begins_type, has_type, name_of};
-ghost use Rattle.module_head.specs.Parts.{parts_of};
+ghost use Rattle.scheme_data.specs.Forms.{form, form_place, form_says};
+ghost use Rattle.module_head.specs.Heads.{symbol_of, string_of};
+ghost use Rattle.module_head.specs.Shapes.{forms_of, parts_of};
 
-use scheme_data::{Datum, Text};
+use scheme_data::{Datum, Place, Text};
+
+/// The place of a datum's first token.
+pub fn place(d: &Datum) -> Place
+    ensures { result ≡ form_place (form d.now) }
+{
+    d.place()
+}
 
 /// The parts of a list; a dotted list is none.
 pub fn parts(d: &Datum) -> Option<&[Datum]>
-    ensures { option_map plain_all (option_copied result) ≡ parts_of (plain d.now) }
+    ensures { option_map forms_of (option_copied result) ≡ parts_of (form d.now) }
 {
     match d {
         Datum::List(_, ds) => Some(ds.as_slice()),
@@ -19,7 +26,7 @@ pub fn parts(d: &Datum) -> Option<&[Datum]>
 
 /// The name of a symbol.
 pub fn symbol(d: &Datum) -> Option<&Text>
-    ensures { option_copied result ≡ symbol_of (plain d.now) }
+    ensures { option_copied result ≡ symbol_of (form d.now) }
 {
     match d {
         Datum::Sym(_, name, _) => Some(name),
@@ -27,48 +34,22 @@ pub fn symbol(d: &Datum) -> Option<&Text>
     }
 }
 
-/// Whether a name is this word.
-pub fn name_is(name: &[u8], word: &[u8]) -> bool
-    ensures { result ≡ is_word name.now word.now }
+/// The bytes of a string.
+pub fn string(d: &Datum) -> Option<&Text>
+    ensures { option_copied result ≡ string_of (form d.now) }
 {
-    name == word
+    match d {
+        Datum::Str(_, text) => Some(text),
+        _ => None,
+    }
 }
 
 /// Whether a datum is the symbol of this word.
-pub fn is_symbol(d: &Datum, word: &[u8]) -> bool
-    ensures { result ≡ says (symbol_of (plain d.now)) word.now }
+pub fn says(d: &Datum, word: &[u8]) -> bool
+    ensures { result ≡ form_says (form d.now) word.now }
 {
     match symbol(d) {
         None => false,
-        Some(name) => name_is(name.as_bytes(), word),
+        Some(name) => name.as_bytes() == word,
     }
-}
-
-fn type_begins(rest: &[u8]) -> bool
-    ensures { result ≡ begins_type rest.now }
-{
-    rest.len() >= 2 && rest[0] == b':' && rest[1] == b':'
-}
-
-/// Whether a name has a type, as `x::long`.
-pub fn name_has_type(name: &[u8]) -> bool
-    ensures { result ≡ has_type name.now }
-{
-    for i in 0..name.len() {
-        if type_begins(&name[i..]) {
-            return true;
-        }
-    }
-    false
-}
-
-/// The name of a symbol without a type.
-pub fn untyped_name(d: &Datum) -> Option<&Text>
-    ensures { option_copied result ≡ name_of (plain d.now) }
-{
-    let name = symbol(d)?;
-    if name_has_type(name.as_bytes()) {
-        return None;
-    }
-    Some(name)
 }

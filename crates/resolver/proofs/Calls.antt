@@ -9,11 +9,11 @@ use Rattle.scheme_data.specs.declared.datum.Datum.TheVariants as datum
 use Rattle.core_tree.specs.declared.tree.Node.{Node}
 use Rattle.core_tree.specs.declared.tree.Node.TheVariants as node
 use Rattle.core_tree.specs.Tree.{If, Trees, tree, none, more}
-use Rattle.module_head.specs.Heads.{symbol_of}
+use Rattle.resolver.specs.BuiltHeads.{symbol_of}
 use Rattle.resolver.specs.Drafts.{Scope, Operator, count, operator, branched, applied, onto_trees, expression, expressions, non_empty}
 use Rattle.resolver.specs.Parts.{node_trees}
 use Rattle.resolver.proofs.Lists.{rest_is}
-use Rattle.module_head.proofs.Layers.{plain_list}
+use Rattle.resolver.proofs.HeadLayers.{plain_list}
 use Rattle.resolver.proofs.Layers.{tree_if, tree_sequence}
 
 -- `args` of `[first, args @ ..]`

@@ -10,14 +10,14 @@ use Rattle.core_tree.specs.declared.tree.VarId.{VarId}
 use Rattle.core_tree.specs.declared.tree.Top.{Top}
 use Rattle.core_tree.specs.declared.tree.Top.TheVariants as top
 use Rattle.core_tree.specs.Tree.{Tree, Trees, more, tree, FunctionTree, function_tree, functions_in, forms_in}
-use Rattle.module_head.specs.Heads.{HeadTree, says, onto}
-use Rattle.module_head.specs.Parts.{parts_of}
+use Rattle.resolver.specs.BuiltHeads.{HeadTree, says, onto}
+use Rattle.resolver.specs.DatumParts.{parts_of}
 use Rattle.resolver.specs.declared.definitions.Definition.{Definition}
 use Rattle.resolver.specs.declared.tops.TopForm.{TopForm}
 use Rattle.resolver.specs.Drafts.{body, onto_trees, expression, expressions, definition, Defines, Evaluates, top_form, tops, definitions_in, evaluated_in, defined, functions, top_scope, draft_with, draft_in}
 use Rattle.resolver.specs.Drafts as drafts
 use Rattle.resolver.specs.Parts.{definition_of, top_of, numbered_from, param_count, function_at, Builds}
-use Rattle.module_head.proofs.Layers.{listed_is}
+use Rattle.resolver.proofs.HeadLayers.{listed_is}
 use Rattle.resolver.proofs.Calls.{ahead as ahead_of, ahead_none, ahead_all}
 use Rattle.resolver.proofs.Lists.{ahead, top_more, function_more}
 use Rattle.resolver.proofs.Numbers.{variables_are}

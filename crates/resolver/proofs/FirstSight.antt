@@ -9,15 +9,15 @@ use Rattle.scheme_data.specs.declared.datum.Place.{Place}
 use Rattle.scheme_data.specs.declared.datum.Datum.{Datum}
 use Rattle.scheme_data.specs.declared.datum.Datum.TheVariants as datum
 use Rattle.name_table.specs.Names.{has_name}
-use Rattle.module_head.specs.declared.head.Import.{Import}
-use Rattle.module_head.specs.Heads.{symbol_of}
-use Rattle.module_head.specs.Trees.{import_tree}
+use Rattle.resolver.specs.declared.built_head.Import.{Import}
+use Rattle.resolver.specs.BuiltHeads.{symbol_of}
+use Rattle.resolver.specs.Trees.{import_tree}
 use Rattle.resolver.specs.declared.tops.TopForm.{TopForm}
 use Rattle.resolver.specs.Names.{is_special}
 use Rattle.resolver.specs.Drafts.{Defines, Evaluates, imported_names, outside_name, outside_in, outside_in_all, outside_in_tops}
 use Rattle.resolver.specs.Drafts as drafts
 use Rattle.resolver.specs.Parts.{top_of, with_first, outside_in_top}
-use Rattle.module_head.proofs.Layers.{plain_list}
+use Rattle.resolver.proofs.HeadLayers.{plain_list}
 use Rattle.resolver.proofs.Lists.{rest_is}
 use Rattle.resolver.proofs.Calls.{rest_of}
 

@@ -6,7 +6,7 @@ use Rattle.scheme_data.specs.Names.{is_same, are_distinct}
 use Rattle.scheme_data.specs.Data.{Plain, Number, Character, Truth, Unspecified, String, Symbol, Listed, Dotted, Vector, Plains, none, more, IsProper, AreProper}
 use Rattle.scheme_data.specs.Symbols.{IsSymbol}
 use Rattle.name_table.specs.Names.{has_name}
-use Rattle.module_head.specs.Heads.{HeadTree, is_word, symbol_of, says, head_of, onto}
+use Rattle.resolver.specs.BuiltHeads.{HeadTree, is_word, symbol_of, says, head_of, onto}
 use Rattle.scheme_data.proofs.DistinctNames.{added}
 use Rattle.core_tree.specs.Tree.{Tree, Trees, FunctionTree, ModuleTree, function_named, found_use}
 use Rattle.core_tree.specs.WellFormed.{IsFound, IsBody, IsFunction, AreFunctions}

@@ -9,7 +9,7 @@ use Rattle.built_table.specs.declared.primitives.Primitive.{Primitive as Builtin
 use Rattle.built_table.specs.declared.primitives.Ty.{Ty}
 use Rattle.built_table.specs.Table.{params_of, prim_named}
 use Rattle.name_table.specs.Names.{place_of}
-use Rattle.module_head.specs.Heads.{is_word, symbol_of}
+use Rattle.resolver.specs.BuiltHeads.{is_word, symbol_of}
 use Rattle.core_tree.specs.declared.tree.VarId.{VarId}
 use Rattle.core_tree.specs.Tree.{Tree, Trees, FunctionTree, ModuleTree, found_own, found_use, callee_of}
 use Rattle.core_tree.specs.Tree as tree

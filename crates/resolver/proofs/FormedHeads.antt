@@ -4,7 +4,7 @@ use Rattle.std.proofs.lemmas.Bool.{not-true, and_parts}
 use Rattle.scheme_data.specs.Names.{are_distinct}
 use Rattle.scheme_data.specs.Data.{Plain, Number, Character, Truth, Unspecified, String, Symbol, Listed, Dotted, Vector, Plains, none, more, IsProper, AreProper}
 use Rattle.scheme_data.specs.Symbols.{IsSymbol}
-use Rattle.module_head.specs.Heads.{is_word, symbol_of, says, has_type, ImportTree, ExportTree, HeadTree, untyped, name_of, onto, names_of, with_name, item_of, some_item, import_item, import_items, prototype, export_item, export_items, main_name, first_main, with_main, with_imports, with_exports, with_clause, then_clause, clauses, imports_itself, exported_names, is_right, righted, headed, head_of}
+use Rattle.resolver.specs.BuiltHeads.{is_word, symbol_of, says, has_type, ImportTree, ExportTree, HeadTree, untyped, name_of, onto, names_of, with_name, item_of, some_item, import_item, import_items, prototype, export_item, export_items, main_name, first_main, with_main, with_imports, with_exports, with_clause, then_clause, clauses, imports_itself, exported_names, is_right, righted, headed, head_of}
 use Rattle.core_tree.specs.WellFormed.{AreNames, has_some}
 use Rattle.resolver.proofs.FormedParts.{Holds, where_true}
 

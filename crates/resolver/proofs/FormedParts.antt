@@ -3,7 +3,7 @@ use Rattle.std.proofs.Common.{◌≡◌, ℕ, Bool, true, false, if◌then◌els
 use Rattle.std.specs.Cmp.Lexicographic.{bytes_decides, nat_list_eq_equiv}
 use Rattle.scheme_data.specs.Names.{are_distinct}
 use Rattle.name_table.specs.Names.{has_name}
-use Rattle.module_head.specs.Heads.{is_word}
+use Rattle.resolver.specs.BuiltHeads.{is_word}
 use Rattle.scheme_data.proofs.DistinctNames.{twice}
 
 -- what holds of the value, where there is one

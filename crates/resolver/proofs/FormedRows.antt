@@ -10,7 +10,7 @@ use Rattle.name_table.specs.Names.{has_name}
 use Rattle.iface_text.specs.declared.interface.Row.{Row}
 use Rattle.iface_text.specs.Format.{IfaceTree, AreUntyped, IsUntyped, AreRows, HasSpelling}
 use Rattle.iface_text.specs.Lines.{untyped_row}
-use Rattle.module_head.specs.Heads.{ExportTree, is_word, exported_names}
+use Rattle.resolver.specs.BuiltHeads.{ExportTree, is_word, exported_names}
 use Rattle.core_tree.specs.Tree.{ModuleTree, function_named}
 use Rattle.core_tree.specs.WellFormed.{is_exported}
 use Rattle.core_tree.specs.WellFormed as formed

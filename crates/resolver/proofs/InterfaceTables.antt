@@ -11,7 +11,7 @@ use Rattle.std.specs.declared.cmp.Ordering.TheVariants.{Less, Equal, Greater}
 use Rattle.iface_text.specs.declared.interface.Iface.{Iface}
 use Rattle.iface_text.specs.declared.interface.Row.{Row}
 use Rattle.iface_text.specs.Format.{IfaceTree, iface_tree}
-use Rattle.module_head.specs.Heads.{is_word}
+use Rattle.resolver.specs.BuiltHeads.{is_word}
 use Rattle.resolver.specs.Elaboration.{interface_named, row_in, row_for}
 use Rattle.resolver.specs.UseTables.{Key, is_key, row_named, HaveSameRows, rows_of, AreNamed, ifaces_of, OfferSameRows}
 

@@ -1,6 +1,9 @@
+pub mod Adding
 pub mod Agreements
+pub mod Behind
 pub mod Calls
 pub mod DefinedForms
+pub mod Exported
 pub mod FirstSight
 pub mod Firsts
 pub mod Formed
@@ -10,11 +13,14 @@ pub mod FormedHeads
 pub mod FormedParts
 pub mod FormedRows
 pub mod FormedUses
+pub mod HeadLayers
 pub mod InterfaceTables
+pub mod ItemParts
 pub mod Layers
 pub mod Lists
 pub mod Numbers
 pub mod Results
 pub mod Sources
 pub mod Tables
+pub mod TypedNames
 pub mod UseLists

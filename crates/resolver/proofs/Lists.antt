@@ -2,7 +2,7 @@
 use Rattle.std.proofs.Common.{◌≡◌, ℕ, ◌-◌, List, [], ◌∷◌, ◌++◌, length, drop, take, Option, Some, None, refl, sym, ap, append_assoc, arith}
 use Rattle.std.proofs.lemmas.List.{take_all, length-drop}
 use Rattle.core_tree.specs.Tree.{FunctionTree}
-use Rattle.module_head.specs.Heads.{onto}
+use Rattle.resolver.specs.BuiltHeads.{onto}
 use Rattle.resolver.specs.Drafts.{TopForm}
 
 -- `&xs[i..]`

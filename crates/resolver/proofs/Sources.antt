@@ -4,7 +4,7 @@ use Rattle.std.specs.Option.{option_map}
 use Rattle.scheme_data.specs.Names.{is_same}
 use Rattle.scheme_data.specs.Data.{plain, plain_all}
 use Rattle.scheme_data.specs.declared.datum.Datum.{Datum}
-use Rattle.module_head.specs.Heads.{HeadTree, head_of}
+use Rattle.resolver.specs.BuiltHeads.{HeadTree, head_of}
 use Rattle.resolver.specs.declared.drafts.Draft.{Draft}
 use Rattle.resolver.specs.Drafts.{TopForm, tops, definitions_in, function_names, imported_names, outside_in_tops, outside_of, agrees, draft_in, draft_of, draft}
 use Rattle.resolver.specs.Drafts as drafts

@@ -10,7 +10,7 @@ use Rattle.scheme_data.specs.declared.datum.Datum.{Datum}
 use Rattle.resolver.specs.declared.definitions.Definition.{Definition}
 use Rattle.resolver.specs.declared.tops.TopForm.{TopForm}
 use Rattle.resolver.specs.declared.tops.TopForm.TheVariants.{Define, Evaluate}
-use Rattle.module_head.specs.Heads.{is_word, symbol_of}
+use Rattle.resolver.specs.BuiltHeads.{is_word, symbol_of}
 use Rattle.resolver.specs.Names.{is_bound_name}
 use Rattle.resolver.specs.Drafts.{onto_names, names, definitions_in, function_names}
 use Rattle.resolver.specs.Parts.{distinct, top_of}

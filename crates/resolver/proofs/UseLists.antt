@@ -15,7 +15,7 @@ use Rattle.scheme_data.specs.Names.{is_same}
 use Rattle.name_table.specs.Names.{has_name}
 use Rattle.iface_text.specs.declared.interface.Row.{Row}
 use Rattle.iface_text.specs.Format.{IfaceTree}
-use Rattle.module_head.specs.Heads.{ImportTree, is_word}
+use Rattle.resolver.specs.BuiltHeads.{ImportTree, is_word}
 use Rattle.core_tree.specs.declared.tree.Use.{Use}
 use Rattle.core_tree.specs.declared.tree.Use.TheVariants.{From, Need}
 use Rattle.core_tree.specs.WellFormed.{module_of, row_of, same_use}

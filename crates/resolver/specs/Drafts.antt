@@ -9,7 +9,7 @@ use Rattle.name_table.specs.Names.{has_name, place_of}
 use Rattle.iface_text.specs.declared.interface.Row.{Row}
 use Rattle.iface_text.specs.Format.{IfaceTree}
 use Rattle.iface_text.specs.Lines.{untyped_row}
-use Rattle.module_head.specs.Heads.{ImportTree, ExportTree, HeadTree, is_word, symbol_of, says, onto, head_of}
+use Rattle.resolver.specs.BuiltHeads.{ImportTree, ExportTree, HeadTree, is_word, symbol_of, says, onto, head_of}
 use Rattle.core_tree.specs.declared.tree.Const.TheVariants.{Int, Bool as Boolean}
 use Rattle.core_tree.specs.declared.tree.VarId.{VarId}
 use Rattle.core_tree.specs.declared.tree.GlobalRef.{GlobalRef}

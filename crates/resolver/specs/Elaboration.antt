@@ -5,8 +5,8 @@ use Rattle.scheme_data.specs.Data.{Plains}
 use Rattle.name_table.specs.Names.{has_name}
 use Rattle.iface_text.specs.declared.interface.Row.{Row}
 use Rattle.iface_text.specs.Format.{IfaceTree, HasSpelling}
-use Rattle.module_head.specs.Heads.{ImportTree, is_word}
-pub use Rattle.module_head.specs.Heads.{onto}
+use Rattle.resolver.specs.BuiltHeads.{ImportTree, is_word}
+pub use Rattle.resolver.specs.BuiltHeads.{onto}
 use Rattle.core_tree.specs.declared.tree.ImportItem.{ImportItem}
 use Rattle.core_tree.specs.declared.tree.Use.{Use}
 use Rattle.core_tree.specs.declared.tree.Use.TheVariants.{From, Need}

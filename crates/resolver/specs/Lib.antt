@@ -1,8 +1,13 @@
+pub mod BuiltHeads
+pub mod DatumParts
 pub mod Drafts
 pub mod Elaboration
 pub mod Firsts
+pub mod Forwards
+pub mod HeadRows
 pub mod Names
 pub mod Parts
 pub mod Rows
 pub mod TakenRows
+pub mod Trees
 pub mod UseTables

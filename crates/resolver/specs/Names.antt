@@ -2,7 +2,7 @@
 use Rattle.std.specs.Prelude.{ℕ, is_some, List, [], ◌∷◌, codes, Bool, not, ◌&&◌, ◌||◌}
 use Rattle.std.specs.List.{list_any}
 use Rattle.built_table.specs.Table.{prim_named}
-use Rattle.module_head.specs.Heads.{is_word, has_type}
+use Rattle.resolver.specs.BuiltHeads.{is_word, has_type}
 
 -- the primitives that are built are neither defined, bound nor imported
 abbrev pub is_primitive_name : List ℕ → Bool

@@ -3,8 +3,8 @@ use Rattle.std.specs.Prelude.{◌≡◌, ℕ, zero, suc, List, [], ◌∷◌, �
 use Rattle.std.specs.List.{list_any}
 use Rattle.scheme_data.specs.Names.{are_distinct}
 use Rattle.scheme_data.specs.Data.{plain, plain_all}
-use Rattle.module_head.specs.declared.head.Head.{Head}
-use Rattle.module_head.specs.Trees.{head_tree}
+use Rattle.resolver.specs.declared.built_head.BuiltHead.{BuiltHead}
+use Rattle.resolver.specs.Trees.{head_tree}
 use Rattle.core_tree.specs.declared.tree.Node.{Node}
 use Rattle.core_tree.specs.declared.tree.Top.{Top}
 use Rattle.core_tree.specs.declared.tree.Top.TheVariants as top
@@ -38,7 +38,7 @@ operator_of operator.Branch = drafts.Branch
 operator_of (operator.Function g) = drafts.Function g
 operator_of (operator.Builtin p) = drafts.Builtins p
 
-abbrev pub draft_from : Head → List (List ℕ) → List Top → drafts.Draft
+abbrev pub draft_from : BuiltHead → List (List ℕ) → List Top → drafts.Draft
 draft_from head outside tops = record { head = head_tree head; outside = outside; functions = functions_in tops; forms = forms_in tops }
 
 abbrev pub draft_tree : Draft → drafts.Draft

@@ -8,7 +8,7 @@ use Rattle.std.specs.Option.{option_map}
 use Rattle.name_table.specs.Names.{has_name}
 use Rattle.iface_text.specs.declared.interface.Row.{Row}
 use Rattle.iface_text.specs.Format.{IfaceTree}
-use Rattle.module_head.specs.Heads.{ImportTree, is_word}
+use Rattle.resolver.specs.BuiltHeads.{ImportTree, is_word}
 use Rattle.resolver.specs.Elaboration.{row_for}
 
 -- a name as a key

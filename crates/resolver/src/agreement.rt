@@ -1,13 +1,13 @@
 // Whether a module defines what its head asks for.
 ghost use Rattle.std.specs.Prelude.{◌≡◌, Some, map};
 ghost use Rattle.std.specs.List.{list_all};
-ghost use Rattle.module_head.specs.Trees.{export_tree, head_tree};
+ghost use Rattle.resolver.specs.Trees.{export_tree, head_tree};
 ghost use Rattle.resolver.specs.Drafts.{definitions_in, function_names, definition_named, takes_as_many, is_there, has_main, agrees};
 ghost use Rattle.resolver.specs.Parts.{top_of, param_counts, distinct};
 
+use crate::built_head::{BuiltHead, Export};
 use crate::imports::import_primitive;
 use crate::tops::TopForm;
-use module_head::{Export, Head};
 use name_table::NameTable;
 use scheme_data::Text;
 
@@ -55,7 +55,7 @@ impl Defined<'_> {
     }
 
     /// Whether no primitive is imported, and the functions that the head names are there.
-    pub fn agrees(&self, head: &Head) -> bool
+    pub fn agrees(&self, head: &BuiltHead) -> bool
         ensures { result ≡ agrees (head_tree head.now) (definitions_in (map top_of self.now.tops.now)) }
     {
         if import_primitive(head.imports.as_slice()) {

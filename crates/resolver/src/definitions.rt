@@ -7,7 +7,7 @@ ghost use Rattle.resolver.specs.Drafts.{names, prototype, definition};
 ghost use Rattle.resolver.specs.Parts.{distinct, definition_of};
 
 use crate::names::{may_be_bound, may_be_defined};
-use module_head::{is_symbol, parts, symbol};
+use crate::shapes::{is_symbol, parts, symbol};
 use name_table::NameTable;
 use scheme_data::{Datum, OutOfMemory, Text};
 use std::alloc::Global;

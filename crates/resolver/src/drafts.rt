@@ -2,16 +2,16 @@
 ghost use Rattle.std.specs.Prelude.{◌≡◌, IfOk, Some, map};
 ghost use Rattle.std.specs.Option.{option_map};
 ghost use Rattle.scheme_data.specs.Data.{plain_all};
-ghost use Rattle.module_head.specs.Trees.{head_tree};
+ghost use Rattle.resolver.specs.Trees.{head_tree};
 ghost use Rattle.resolver.specs.Drafts.{draft_of, draft};
 ghost use Rattle.resolver.specs.Parts.{top_of, draft_tree};
 
 use crate::agreement::Defined;
+use crate::built_head::{BuiltHead, read_head};
 use crate::functions::Functions;
 use crate::outside::outside_names;
 use crate::tops::{TopForm, function_names, param_counts, top_forms};
 use core_tree::Top;
-use module_head::{Head, read_head};
 use name_table::NameTable;
 use scheme_data::{Datum, List, OutOfMemory};
 use std::alloc::Global;
@@ -19,13 +19,17 @@ use std::alloc::Global;
 /// What a source says by itself: its head, the names of other modules' functions that it calls, in order of first use, and its top-level forms, in which each of those stands for its place.
 #[derive(Drop)]
 pub(crate) struct Draft {
-    pub head: Head,
+    pub head: BuiltHead,
     pub outside: NameTable,
     pub tops: List<Top>,
 }
 
 /// The draft of a head and top-level forms; none where they don't agree, or a body or an expression isn't built.
-fn draft_of(alloc: Global, head: Head, forms: &[TopForm<'_>]) -> Result<Option<Draft>, OutOfMemory>
+fn draft_of(
+    alloc: Global,
+    head: BuiltHead,
+    forms: &[TopForm<'_>],
+) -> Result<Option<Draft>, OutOfMemory>
     ensures { IfOk result (λ d. option_map draft_tree d ≡ draft_of (Some (head_tree head)) (Some (map top_of forms.now))) }
 {
     let Some(names) = function_names(alloc, forms)? else {

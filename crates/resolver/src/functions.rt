@@ -3,16 +3,17 @@ ghost use Rattle.std.specs.Prelude.{◌≡◌, ◌+◌, ◌-◌, ◌≤◌, IfOk
 ghost use Rattle.std.specs.Option.{option_map};
 ghost use Rattle.scheme_data.specs.Data.{plain};
 ghost use Rattle.core_tree.specs.Tree.{tree, function_tree};
-ghost use Rattle.module_head.specs.Heads.{says};
-ghost use Rattle.module_head.specs.Trees.{head_tree};
+ghost use Rattle.resolver.specs.BuiltHeads.{says};
+ghost use Rattle.resolver.specs.Trees.{head_tree};
 ghost use Rattle.resolver.specs.Drafts.{expression, top_scope, draft_in};
 ghost use Rattle.resolver.specs.Parts.{definition_of, top_of, param_count, function_at, Builds, draft_from, numbered_from};
 
+use crate::built_head::BuiltHead;
 use crate::definitions::Definition;
 use crate::scope::{Scope, number_after};
+use crate::shapes::name_is;
 use crate::tops::TopForm;
 use core_tree::{Lambda, Node, Top, VarId};
-use module_head::{Head, name_is};
 use name_table::NameTable;
 use scheme_data::{Datum, List, OutOfMemory};
 use std::alloc::Global;
@@ -21,7 +22,7 @@ use std::alloc::Global;
 #[derive(Clone, Copy)]
 pub struct Functions<'a> {
     pub alloc: Global,
-    pub head: &'a Head,
+    pub head: &'a BuiltHead,
     pub names: &'a NameTable,
     pub outside: &'a NameTable,
 }

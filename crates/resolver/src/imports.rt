@@ -2,13 +2,13 @@
 ghost use Rattle.std.specs.Prelude.{◌≡◌, [], map, IfOk};
 ghost use Rattle.std.specs.List.{list_any};
 ghost use Rattle.scheme_data.specs.Names.{is_same};
-ghost use Rattle.module_head.specs.Trees.{import_tree};
+ghost use Rattle.resolver.specs.Trees.{import_tree};
 ghost use Rattle.resolver.specs.Names.{is_primitive_name};
 ghost use Rattle.resolver.specs.Drafts.{imported_names};
 ghost use Rattle.resolver.specs.Parts.{with_first};
 
+use crate::built_head::Import;
 use crate::names::names_primitive;
-use module_head::Import;
 use name_table::NameTable;
 use scheme_data::{OutOfMemory, Text};
 use std::alloc::Global;

@@ -2,15 +2,19 @@
 #![tactic(auto)]
 
 mod agreement;
+mod built_head;
+mod clauses;
 mod definitions;
 mod drafts;
 mod functions;
 mod imports;
 mod interfaces;
+mod items;
 mod names;
 mod outside;
 mod resolve;
 mod scope;
+mod shapes;
 mod tops;
 mod uses;
 

@@ -1,11 +1,11 @@
 // Names of primitives and of special forms, and which names a module may define or bind.
 ghost use Rattle.std.specs.Prelude.{◌≡◌};
 ghost use Rattle.std.specs.List.{list_any};
-ghost use Rattle.module_head.specs.Heads.{is_word};
+ghost use Rattle.resolver.specs.BuiltHeads.{is_word};
 ghost use Rattle.resolver.specs.Names.{is_primitive_name, core_forms, derived_forms, top_forms, is_special, is_defined_name, is_bound_name};
 
+use crate::shapes::{name_has_type, name_is};
 use built_table::prim_by_name;
-use module_head::{name_has_type, name_is};
 
 /// Whether it is the name of a primitive that is built.
 pub fn names_primitive(name: &[u8]) -> bool

@@ -2,15 +2,16 @@
 ghost use Rattle.std.specs.Prelude.{◌≡◌, [], map, IfOk};
 ghost use Rattle.scheme_data.specs.Names.{is_same};
 ghost use Rattle.scheme_data.specs.Data.{plain, plain_all};
-ghost use Rattle.module_head.specs.Heads.{symbol_of};
-ghost use Rattle.module_head.specs.Trees.{import_tree};
+ghost use Rattle.resolver.specs.BuiltHeads.{symbol_of};
+ghost use Rattle.resolver.specs.Trees.{import_tree};
 ghost use Rattle.resolver.specs.Drafts.{imported_names, is_outside, outside_name, outside_in, outside_in_all, outside_in_tops};
 ghost use Rattle.resolver.specs.Parts.{top_of, with_first, outside_in_top};
 
+use crate::built_head::Import;
 use crate::imports::imported_names;
 use crate::names::names_special_form;
+use crate::shapes::symbol;
 use crate::tops::TopForm;
-use module_head::{Import, symbol};
 use name_table::NameTable;
 use scheme_data::{Datum, OutOfMemory};
 use std::alloc::Global;

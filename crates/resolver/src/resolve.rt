@@ -5,19 +5,19 @@ ghost use Rattle.scheme_data.specs.Data.{AreProper, plain_all};
 ghost use Rattle.built_table.specs.declared.primitives.Ty.TheVariants.{Obj};
 ghost use Rattle.iface_text.specs.Format.{iface_tree, HasSpelling};
 ghost use Rattle.iface_text.specs.Lines.{untyped_row};
-ghost use Rattle.module_head.specs.Trees.{import_tree, head_tree};
+ghost use Rattle.resolver.specs.Trees.{import_tree, head_tree};
 ghost use Rattle.core_tree.specs.Tree.{module_tree};
 ghost use Rattle.core_tree.specs.WellFormed.{IsWellFormed};
 ghost use Rattle.resolver.specs.Drafts.{exported_rows, exported};
 ghost use Rattle.resolver.specs.Elaboration.{AreSpelled, import_item, completed, elaborated};
 ghost use Rattle.resolver.specs.Parts.{draft_tree};
 
+use crate::built_head::{BuiltHead, Import};
 use crate::drafts::{Draft, read_draft};
 use crate::uses::uses_for;
 use built_table::Ty;
 use core_tree::{ImportItem, Module};
 use iface_text::{Iface, Row, RowKind};
-use module_head::{Head, Import};
 use scheme_data::{Datum, List, OutOfMemory, Stack, Text};
 use std::alloc::Global;
 
@@ -45,7 +45,7 @@ fn untyped_row(alloc: Global, name: &Text, count: usize) -> Result<Row, OutOfMem
 }
 
 /// A row for each function that is exported, in clause order.
-fn exported_rows(alloc: Global, head: &Head) -> Result<List<Row>, OutOfMemory>
+fn exported_rows(alloc: Global, head: &BuiltHead) -> Result<List<Row>, OutOfMemory>
     ensures { IfOk result (λ rows. rows ≡ exported_rows (head_tree head.now)) }
 {
     let mut rows = List::new(alloc);

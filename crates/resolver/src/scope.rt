@@ -4,15 +4,15 @@ ghost use Rattle.std.specs.Option.{option_map};
 ghost use Rattle.scheme_data.specs.Data.{plain, plain_all};
 ghost use Rattle.built_table.specs.Table.{prim_named};
 ghost use Rattle.name_table.specs.Names.{place_of};
-ghost use Rattle.module_head.specs.Heads.{symbol_of};
+ghost use Rattle.resolver.specs.BuiltHeads.{symbol_of};
 ghost use Rattle.core_tree.specs.Tree.{tree};
 ghost use Rattle.resolver.specs.Drafts.{taking, variable, global_operator, operator, branched, applied, expression, expressions, non_empty, body};
 ghost use Rattle.resolver.specs.Parts.{node_trees, scope_of, operator_of};
 
 use crate::names::names_special_form;
+use crate::shapes::{name_is, symbol};
 use built_table::{Primitive, prim_by_name};
 use core_tree::{Const, GlobalRef, Node, VarId};
-use module_head::{name_is, symbol};
 use name_table::NameTable;
 use scheme_data::{Datum, OutOfMemory};
 use sqlite_items::{Boxed, Items};

@@ -6,7 +6,7 @@ ghost use Rattle.resolver.specs.Drafts.{begins_definition, top_form, tops, defin
 ghost use Rattle.resolver.specs.Parts.{top_of, param_count, param_counts, distinct};
 
 use crate::definitions::{Definition, add_name, defined};
-use module_head::{is_symbol, parts};
+use crate::shapes::{is_symbol, parts};
 use name_table::NameTable;
 use scheme_data::{Datum, List, OutOfMemory};
 use std::alloc::Global;

@@ -2,17 +2,17 @@
 ghost use Rattle.std.specs.Prelude.{◌≡◌, [], map, if◌then◌else◌, Some, None, IfOk, OnOk};
 ghost use Rattle.std.specs.Option.{option_map};
 ghost use Rattle.iface_text.specs.Format.{iface_tree};
-ghost use Rattle.module_head.specs.Trees.{import_tree, head_tree};
+ghost use Rattle.resolver.specs.Trees.{import_tree, head_tree};
 ghost use Rattle.core_tree.specs.WellFormed.{same_use};
 ghost use Rattle.resolver.specs.Elaboration.{both, calls, item_needs, needs, each_use_once};
 ghost use Rattle.resolver.specs.Parts.{with_first};
 ghost use Rattle.resolver.specs.UseTables.{HasModules, TakesItem};
 ghost use Rattle.resolver.specs.TakenRows.{use_of};
 
+use crate::built_head::{BuiltHead, Import};
 use crate::interfaces::{Interfaces, copy_row};
 use core_tree::Use;
 use iface_text::{Iface, Row};
-use module_head::{Head, Import};
 use name_table::NameTable;
 use scheme_data::{List, OutOfMemory, Text};
 use std::alloc::Global;
@@ -151,7 +151,7 @@ fn each_once(alloc: Global, taken: &[Taken<'_>]) -> Result<List<Use>, OutOfMemor
 /// What a source takes from other modules: what it calls, in order of first use, and then what it imports and doesn't call, in clause order, each name of a module once; none exactly where a name that it imports has no row.
 pub fn uses_for(
     alloc: Global,
-    head: &Head,
+    head: &BuiltHead,
     outside: &NameTable,
     ifaces: &[Iface],
 ) -> Result<Option<List<Use>>, OutOfMemory>

@@ -1,8 +1,8 @@
 use Rattle.std.proofs.Common.{◌≡◌, ◌++◌, drop}
 use Rattle.std.specs.Option.{option_map}
-use Rattle.scheme_data.specs.Data.{plain_all}
 use Rattle.module_head.specs.Heads.{names_of}
+use Rattle.module_head.specs.Shapes.{forms_of}
 use Rattle.module_head.proofs.items.names.Given as goal
 
 abbrev pub invariant-loop-d : goal.invariant-loop-d
-invariant-loop-d l = names_of (plain_all l.ds) ≡ option_map (λ xs. l.found ++ xs) (names_of (plain_all (drop l.d-index l.ds)))
+invariant-loop-d l = names_of (forms_of l.ds) ≡ option_map (λ xs. l.found ++ xs) (names_of (forms_of (drop l.d-index l.ds)))

@@ -1,8 +1,8 @@
 use Rattle.std.proofs.Common.{List, [], map, sym, ap, ◌∙◌}
 use Rattle.std.specs.Option.{option_map}
 use Rattle.scheme_data.specs.Names.{is_same}
-use Rattle.module_head.specs.declared.head.Import.{Import}
-use Rattle.module_head.specs.Trees.{import_tree, head_tree}
+use Rattle.resolver.specs.declared.built_head.Import.{Import}
+use Rattle.resolver.specs.Trees.{import_tree, head_tree}
 use Rattle.resolver.specs.Drafts.{imported_names, outside_in_tops}
 use Rattle.resolver.specs.Parts.{top_of, draft_from, with_first}
 use Rattle.resolver.proofs.Sources.{draft_is}

@@ -1,6 +1,6 @@
 use Rattle.std.proofs.Common.{List, Some, map, sym, ap, ◌∙◌}
 use Rattle.std.specs.Option.{option_map}
-use Rattle.module_head.specs.Trees.{head_tree}
+use Rattle.resolver.specs.Trees.{head_tree}
 use Rattle.resolver.specs.declared.tops.TopForm.{TopForm}
 use Rattle.resolver.specs.Parts.{top_of}
 use Rattle.resolver.proofs.Sources.{source_is}

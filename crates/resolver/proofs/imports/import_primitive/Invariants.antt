@@ -1,6 +1,6 @@
 use Rattle.std.proofs.Common.{◌≡◌, map, drop}
 use Rattle.std.specs.List.{list_any}
-use Rattle.module_head.specs.Trees.{import_tree}
+use Rattle.resolver.specs.Trees.{import_tree}
 use Rattle.resolver.specs.Names.{is_primitive_name}
 use Rattle.resolver.specs.Drafts.{imported_names}
 use Rattle.resolver.proofs.imports.import_primitive.Given as goal

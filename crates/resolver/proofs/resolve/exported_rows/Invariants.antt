@@ -1,7 +1,7 @@
 use Rattle.std.proofs.Common.{◌≡◌, ◌++◌, map, drop}
 use Rattle.iface_text.specs.Lines.{untyped_row}
-use Rattle.module_head.specs.Heads.{ExportTree}
-use Rattle.module_head.specs.Trees.{export_tree, head_tree}
+use Rattle.resolver.specs.BuiltHeads.{ExportTree}
+use Rattle.resolver.specs.Trees.{export_tree, head_tree}
 use Rattle.resolver.specs.Drafts.{exported_rows}
 use Rattle.resolver.proofs.resolve.exported_rows.Given as goal
 

@@ -1,5 +1,5 @@
 use Rattle.std.proofs.Common.{◌≡◌, ◌++◌, map, reverse, length}
-use Rattle.module_head.specs.Trees.{import_tree}
+use Rattle.resolver.specs.Trees.{import_tree}
 use Rattle.resolver.specs.Elaboration.{import_item}
 use Rattle.resolver.proofs.resolve.import_items.Given as goal
 

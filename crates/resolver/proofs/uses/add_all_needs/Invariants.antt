@@ -1,5 +1,5 @@
 use Rattle.std.proofs.Common.{◌≡◌, map, drop, Some}
-use Rattle.module_head.specs.Trees.{import_tree}
+use Rattle.resolver.specs.Trees.{import_tree}
 use Rattle.resolver.specs.Elaboration.{both, needs}
 use Rattle.resolver.specs.TakenRows.{use_of}
 use Rattle.resolver.proofs.uses.add_all_needs.Given as goal

@@ -1,6 +1,6 @@
 use Rattle.std.proofs.Common.{map, ap, ◌∙◌}
 use Rattle.std.specs.Option.{option_copied}
-use Rattle.module_head.specs.Trees.{import_tree}
+use Rattle.resolver.specs.Trees.{import_tree}
 use Rattle.resolver.specs.Elaboration.{from}
 use Rattle.resolver.proofs.UseLists.{not_imported, imported_from, call_stops, call_goes_on}
 use Rattle.resolver.proofs.uses.calls.Goals as goal

@@ -1,5 +1,5 @@
 use Rattle.std.proofs.Common.{◌≡◌, map, drop, Some}
-use Rattle.module_head.specs.Trees.{import_tree}
+use Rattle.resolver.specs.Trees.{import_tree}
 use Rattle.resolver.specs.Elaboration.{both, calls}
 use Rattle.resolver.specs.TakenRows.{use_of}
 use Rattle.resolver.proofs.uses.calls.Given as goal

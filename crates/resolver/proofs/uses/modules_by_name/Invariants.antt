@@ -1,5 +1,5 @@
 use Rattle.std.proofs.Common.{map, drop}
-use Rattle.module_head.specs.Trees.{import_tree}
+use Rattle.resolver.specs.Trees.{import_tree}
 use Rattle.resolver.specs.UseTables.{HasModules}
 use Rattle.resolver.proofs.uses.modules_by_name.Given as goal
 

@@ -2,7 +2,7 @@ use Rattle.std.proofs.Common.{map, ap, sym, ◌∙◌, if◌then◌else◌, [], 
 use Rattle.std.specs.Option.{option_map}
 use Rattle.iface_text.specs.Format.{iface_tree}
 use Rattle.core_tree.specs.WellFormed.{same_use}
-use Rattle.module_head.specs.Trees.{import_tree}
+use Rattle.resolver.specs.Trees.{import_tree}
 use Rattle.resolver.specs.Elaboration.{each_use_once}
 use Rattle.resolver.specs.Parts.{with_first}
 use Rattle.resolver.specs.TakenRows.{use_of}

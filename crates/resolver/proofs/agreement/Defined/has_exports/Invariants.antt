@@ -1,6 +1,6 @@
 use Rattle.std.proofs.Common.{◌≡◌, map, drop}
 use Rattle.std.specs.List.{list_all}
-use Rattle.module_head.specs.Trees.{export_tree}
+use Rattle.resolver.specs.Trees.{export_tree}
 use Rattle.resolver.specs.Drafts.{definitions_in, is_there}
 use Rattle.resolver.specs.Parts.{top_of}
 use Rattle.resolver.proofs.agreement.Defined.has_exports.Given as goal

@@ -1,5 +1,5 @@
 use Rattle.std.proofs.Common.{◌+◌, ap, subst, ◌∙◌, arith}
-use Rattle.module_head.specs.Trees.{head_tree}
+use Rattle.resolver.specs.Trees.{head_tree}
 use Rattle.resolver.specs.Parts.{top_of, Builds}
 use Rattle.resolver.proofs.DefinedForms.{not_built, built_more, all_built}
 use Rattle.resolver.proofs.functions.Functions.all.Goals as goal

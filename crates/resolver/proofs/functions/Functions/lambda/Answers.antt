@@ -1,6 +1,6 @@
 use Rattle.std.proofs.Common.{List, ℕ, ap, sym, ◌∙◌}
 use Rattle.std.specs.Option.{option_map}
-use Rattle.module_head.specs.Heads.{says}
+use Rattle.resolver.specs.BuiltHeads.{says}
 use Rattle.core_tree.specs.Tree.{tree}
 use Rattle.resolver.proofs.DefinedForms.{lambda_missing, lambda_is}
 use Rattle.resolver.proofs.functions.Functions.lambda.Goals as goal

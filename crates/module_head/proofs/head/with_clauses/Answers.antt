@@ -1,6 +1,0 @@
-use Rattle.std.proofs.Common.{refl}
-use Rattle.module_head.proofs.Adding.{none_added}
-use Rattle.module_head.proofs.head.with_clauses.Goals as goal
-
-pub loop-d-init : goal.loop-d-init
-loop-d-init c = none_added c.args.name.now c.args.ds.now _ c.in_ok-copy.ensures c.new.ensures c.new-2.ensures refl

@@ -1,5 +1,0 @@
-use Rattle.module_head.proofs.Layers.{list_parts}
-use Rattle.module_head.proofs.shapes.parts.Goals as goal
-
-pub returns-in-List : goal.returns-in-List
-returns-in-List c = rw c.in-List.is (list_parts c.in-List.field-0 c.in-List.ds _ c.as_slice.ensures)
