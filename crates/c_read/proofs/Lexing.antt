@@ -1,5 +1,5 @@
 -- One byte on in a text, and in a string.
-use Rattle.std.proofs.Common.{◌≡◌, ℕ, zero, suc, ◌+◌, ◌-◌, ◌<◌, ◌≤◌, List, [], ◌∷◌, ◌++◌, length, drop, take, get_or, true, false, if◌then◌else◌, ◌&&◌, nat_eq, Option, Some, None, refl, sym, ap, ◌∙◌, append_assoc, add_assoc, arith}
+use Rattle.std.proofs.Common.{◌≡◌, ℕ, zero, suc, ◌+◌, ◌-◌, ◌<◌, ◌≤◌, List, [], ◌∷◌, ◌++◌, length, drop, take, get_or, Bool, true, false, if◌then◌else◌, ◌&&◌, nat_eq, Option, Some, None, refl, sym, ap, ◌∙◌, append_assoc, add_assoc, arith}
 use Rattle.std.proofs.lemmas.List.{drop_more, length-drop}
 use Rattle.std.specs.List.{prefix_len}
 use Rattle.c_tree.specs.Lexical.{Token, Word, is_space, is_word_byte, comment_from, one_more, Quoted, spelled_at, onto_quoted, spelled_then, quoted_from, Gap, Lexed, lexeme, emit, tokens_from, tokens}
@@ -31,6 +31,19 @@ word_lexeme text first rest more t m s w =
 pub over_gap : (text rest : List ℕ) (more : ℕ) → 0 < length text → Gap more ≡ lexeme_at text → rest ≡ drop (1 + more) text → tokens rest ≡ tokens text
 over_gap [] rest more h e r = absurd (omega arith)
 over_gap (b ∷ bs) rest more h e r = ap tokens (r ∙ behind_first b bs more) ∙ sym (skip_all more bs) ∙ ap (λ s. emit s (λ k. tokens_from k bs)) e
+
+-- over the first byte of a text, where it is a blank
+over_blank : (b : ℕ) (bs : List ℕ) → is_space b ≡ true → tokens (b ∷ bs) ≡ tokens bs
+unfolding lexeme
+over_blank b bs s = rw s refl
+
+pub over_blanks : (text : List ℕ) → tokens (drop (prefix_len is_space text) text) ≡ tokens text
+over_blanks [] = refl
+over_blanks (b ∷ bs) = go (over_blanks bs) (is_space b) refl
+  where
+    go : tokens (drop (prefix_len is_space bs) bs) ≡ tokens bs → (s : Bool) → is_space b ≡ s → tokens (drop (if s then 1 + prefix_len is_space bs else 0) (b ∷ bs)) ≡ tokens (b ∷ bs)
+    go ih true s = ap tokens (behind_first b bs (prefix_len is_space bs)) ∙ ih ∙ sym (over_blank b bs s)
+    go ih false s = refl
 
 pub one_token : (text rest : List ℕ) (t : Token) (more : ℕ) → 0 < length text → Lexed t more ≡ lexeme_at text → rest ≡ drop (1 + more) text → t ∷ tokens rest ≡ tokens text
 one_token [] rest t more h e r = absurd (omega arith)

@@ -2,6 +2,7 @@ pub mod Classes
 pub mod Extends
 pub mod Faulty
 pub mod Forward
+pub mod Fronts
 pub mod Heads
 pub mod TokenKinds
 pub mod Lexing

@@ -1,7 +1,7 @@
 pub mod Answers
 pub mod Dues
+pub mod Fronts
 pub mod Kinds
-pub mod Lefts
 pub mod Nesting
 pub mod Productions
 pub mod Reaches

@@ -27,7 +27,7 @@ ghost use Rattle.c_read.specs.Productions.{
 };
 
 use crate::calls::{read_call, read_expression};
-use crate::skips::{end_label_name, local_name, skip, skip_text, target_name, took, word};
+use crate::skips::{end_label_name, local_name, skip, skip_text, target_name, word};
 use crate::stop::Stop;
 use crate::tokens::Tokens;
 use crate::words::has_text;
@@ -118,10 +118,10 @@ fn read_named(alloc: Global, tokens: &mut Tokens<'_>, word: &[u8]) -> Result<Pie
     ensures read { Took (named_statement word.now tokens.old) result tokens.new }
     ensures spelled { IfOk result (λ x. YieldsPiece (Word word.now ∷ tokens.old) x tokens.new) }
 {
-    if took(tokens, b'=') {
+    if tokens.take_mark(b'=') {
         return read_assigned(alloc, tokens, word);
     }
-    if took(tokens, b':') {
+    if tokens.take_mark(b':') {
         return read_looped(alloc, tokens, word);
     }
     read_called(alloc, tokens, word)
@@ -239,13 +239,13 @@ fn read_piece(alloc: Global, opens: &Stack<Open>, tokens: &mut Tokens<'_>) -> Re
     ensures read { Took (next_piece opens.now tokens.old) result tokens.new }
     ensures spelled { IfOk result (λ x. YieldsPiece tokens.old x tokens.new) }
 {
-    if took(tokens, b'}') {
+    if tokens.take_mark(b'}') {
         return match innermost(opens) {
             Some(block) => read_closing(alloc, tokens, block),
             None => Err(Stop::Wrong),
         };
     }
-    if took(tokens, b'{') {
+    if tokens.take_mark(b'{') {
         return Ok(Piece::Begin);
     }
     read_statement(alloc, tokens)
@@ -295,7 +295,7 @@ fn took_end(tokens: &mut Tokens<'_>, opens: &Stack<Open>) -> bool
     if !opens.is_empty() {
         return false;
     }
-    took(tokens, b'}')
+    tokens.take_mark(b'}')
 }
 
 // Keeps which blocks are open; which piece belongs to which is for `lay_out` to find.

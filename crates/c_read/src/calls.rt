@@ -1,13 +1,13 @@
 // Arguments, calls and expressions.
-ghost use Rattle.std.specs.Prelude.{◌≡◌, ◌∷◌, [], IfOk};
+ghost use Rattle.std.specs.Prelude.{◌≡◌, ◌∷◌, [], IfOk, None};
 ghost use Rattle.c_tree.specs.Lexical.{Word, Mark};
 ghost use Rattle.c_tree.specs.Spelling.{argument_tokens_of, argument_tokens, NamedArgument, NamedArguments};
-ghost use Rattle.c_read.specs.Sequences.{Took, onto, all, after_mark};
+ghost use Rattle.c_read.specs.Sequences.{Took, onto, all, after_mark, word_first};
 ghost use Rattle.c_read.specs.Yields.{YieldsArgument, YieldsNext, YieldsArguments, YieldsCall, YieldsExpr};
 ghost use Rattle.c_read.specs.Productions.{entry, argument, next_argument, arguments, call_of, expression};
 
 use crate::lex::unquote;
-use crate::skips::{entry_name, skip, took, word};
+use crate::skips::{entry_name, skip, word};
 use crate::stop::Stop;
 use crate::token::Part;
 use crate::tokens::Tokens;
@@ -27,7 +27,9 @@ fn read_entry(alloc: Global, tokens: &mut Tokens<'_>, mark: u8) -> Result<CArg, 
     Ok(CArg::Entry(name))
 }
 
-fn read_argument(alloc: Global, tokens: &mut Tokens<'_>) -> Result<CArg, Stop>
+// Where no word is next.
+fn read_other_argument(alloc: Global, tokens: &mut Tokens<'_>) -> Result<CArg, Stop>
+    requires { word_first tokens.old ≡ None }
     ensures read { Took (argument tokens.old) result tokens.new }
     ensures spelled { IfOk result (λ x. YieldsArgument tokens.old x tokens.new) }
 {
@@ -35,17 +37,25 @@ fn read_argument(alloc: Global, tokens: &mut Tokens<'_>) -> Result<CArg, Stop>
         return Err(Stop::Wrong);
     };
     match token.into_part() {
-        Part::Word(word) => {
-            let atom = atom(alloc, word)?;
-            Ok(CArg::Atom(atom))
-        }
         Part::Str(text) => {
             let bytes = unquote(alloc, text)?;
             Ok(CArg::Str(bytes))
         }
         Part::Mark(mark) => read_entry(alloc, tokens, mark),
+        Part::Word(_) => unreachable!(),
         Part::Bad => Err(Stop::Wrong),
     }
+}
+
+fn read_argument(alloc: Global, tokens: &mut Tokens<'_>) -> Result<CArg, Stop>
+    ensures read { Took (argument tokens.old) result tokens.new }
+    ensures spelled { IfOk result (λ x. YieldsArgument tokens.old x tokens.new) }
+{
+    if let Some(word) = tokens.take_word() {
+        let atom = atom(alloc, word)?;
+        return Ok(CArg::Atom(atom));
+    }
+    read_other_argument(alloc, tokens)
 }
 
 #[tactic(auto, unfolding(crate::specs::Productions::next_argument))]
@@ -67,7 +77,7 @@ fn read_more_arguments(
 {
     let mut args = List::new(alloc);
     args.push(first)?;
-    while !took(tokens, b')') {
+    while !tokens.take_mark(b')') {
         let arg = read_next_argument(alloc, tokens)?;
         args.push(arg)?;
     }
@@ -79,7 +89,7 @@ fn read_arguments(alloc: Global, tokens: &mut Tokens<'_>) -> Result<List<CArg>, 
     ensures read { Took (arguments tokens.old) result tokens.new }
     ensures spelled { IfOk result (λ x. YieldsArguments tokens.old x (Mark 41 ∷ tokens.new)) }
 {
-    if took(tokens, b')') {
+    if tokens.take_mark(b')') {
         return Ok(List::new(alloc));
     }
     let first = read_argument(alloc, tokens)?;
@@ -103,7 +113,7 @@ pub fn read_expression(alloc: Global, tokens: &mut Tokens<'_>) -> Result<CExpr, 
     ensures spelled { IfOk result (λ x. YieldsExpr tokens.old x tokens.new) }
 {
     let word = word(tokens)?;
-    if took(tokens, b'(') {
+    if tokens.take_mark(b'(') {
         let call = read_call(alloc, tokens, word)?;
         return Ok(CExpr::Call(call));
     }

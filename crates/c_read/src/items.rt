@@ -28,7 +28,7 @@ ghost use Rattle.c_read.specs.Productions.{
 use crate::bodies::read_body;
 use crate::skips::{
     global_name, is_extern_next, is_type_next, is_void_next, is_word_next, local_name, skip,
-    skip_text, took, type_word, word,
+    skip_text, type_word, word,
 };
 use crate::stop::Stop;
 use crate::tokens::Tokens;
@@ -51,7 +51,7 @@ fn read_types(alloc: Global, tokens: &mut Tokens<'_>, first: CTy) -> Result<List
 {
     let mut types = List::new(alloc);
     types.push(first)?;
-    while !took(tokens, b')') {
+    while !tokens.take_mark(b')') {
         let ty = read_next_type(tokens)?;
         types.push(ty)?;
     }
@@ -83,7 +83,7 @@ fn read_params(alloc: Global, tokens: &mut Tokens<'_>, first: CVar) -> Result<Li
 {
     let mut params = List::new(alloc);
     params.push(first)?;
-    while !took(tokens, b')') {
+    while !tokens.take_mark(b')') {
         let param = read_next_variable(alloc, tokens)?;
         params.push(param)?;
     }
@@ -145,7 +145,7 @@ fn read_without_params(
     ensures read { TookAs item_of (without_params result_type name tokens.old) result tokens.new }
     ensures spelled { IfOk result (λ i. YieldsRest result_type name (Word (codes "void") ∷ Mark 41 ∷ tokens.old) i tokens.new) }
 {
-    if took(tokens, b';') {
+    if tokens.take_mark(b';') {
         return Ok(CItem::Declared(result_type, name, List::new(alloc)));
     }
     skip(tokens, b'{')?;

@@ -1,9 +1,10 @@
 // What stands at the front of a text.
-ghost use Rattle.std.specs.Prelude.{◌≡◌, ℕ, ◌+◌, ◌≤◌, ◌<◌, ◌∷◌, length, take, IfOk, nat_eq};
+ghost use Rattle.std.specs.Prelude.{◌≡◌, ℕ, ◌+◌, ◌≤◌, ◌<◌, ◌∷◌, length, take, IfOk, MatchOption, nat_eq};
 ghost use Rattle.std.specs.List.{prefix_len};
 ghost use Rattle.std.specs.Option.{IfSome};
-ghost use Rattle.c_tree.specs.Lexical.{Word, Bad, Lexed, comment_len, comment_lexeme, is_space, is_word_byte, is_mark, is_octal, escape_at, octal_at, spelled_at, quoted_from, lexeme, signed_lexeme, string_lexeme};
+ghost use Rattle.c_tree.specs.Lexical.{Word, Bad, Gap, Lexed, tokens, comment_len, comment_lexeme, is_space, is_word_byte, is_mark, is_octal, escape_at, octal_at, spelled_at, quoted_from, lexeme, signed_lexeme, string_lexeme};
 ghost use Rattle.c_read.specs.Scans.{octal_byte, spelled_of, quoted_of, size_in, lexeme_of, lexeme_at, more_of};
+ghost use Rattle.c_read.specs.Fronts.{gap_in, word_in};
 ghost use Rattle.c_read.specs.Tokens.{unquoted};
 
 use crate::token::{CToken, Part};
@@ -44,7 +45,8 @@ fn tells_word(b: u8) -> bool
     tells_alphanumeric(b) || b == b'_'
 }
 
-fn tells_mark(b: u8) -> bool
+/// Whether a byte is a mark.
+pub fn tells_mark(b: u8) -> bool
     ensures { result ≡ is_mark b }
 {
     b == b'&'
@@ -169,6 +171,26 @@ pub fn unquote(alloc: Global, rest: &[u8]) -> Result<Text, OutOfMemory>
     }
 }
 
+// How many blanks stand at the front: a third of a text is indentation.
+fn blank_len(text: &[u8]) -> usize
+    ensures value { result ≡ prefix_len is_space text.now }
+    ensures within { result ≤ length text.now }
+{
+    let mut n = 0;
+    while n < text.len() && tells_space(text[n]) {
+        n += 1;
+    }
+    n
+}
+
+/// A text without the blanks at its front.
+pub fn behind_blanks<'a>(text: &'a [u8]) -> &'a [u8]
+    ensures same { tokens result.now ≡ tokens text.now }
+    ensures within { length result.now ≤ length text.now }
+{
+    &text[blank_len(text)..]
+}
+
 fn word_len(rest: &[u8]) -> usize
     ensures value { result ≡ prefix_len is_word_byte rest.now }
     ensures within { result ≤ length rest.now }
@@ -232,17 +254,93 @@ fn comment_len(rest: &[u8]) -> Option<usize>
     None
 }
 
+// The bytes of a comment after its `/`, if one stands there.
+fn comment_more(rest: &[u8]) -> Option<usize>
+    ensures lexeme { MatchOption result (comment_lexeme rest.now ≡ Lexed Bad 0) (λ more. comment_lexeme rest.now ≡ Gap more) }
+    ensures within { IfSome result (λ n. n ≤ length rest.now) }
+{
+    if rest.is_empty() || rest[0] != b'*' {
+        return None;
+    }
+    match comment_len(&rest[1..]) {
+        Some(n) => Some(n + 1),
+        None => None,
+    }
+}
+
 fn comment_at<'a>(rest: &[u8]) -> Scan<'a>
     ensures lexeme { lexeme_of result ≡ comment_lexeme rest.now }
     ensures within { more_of result ≤ length rest.now }
 {
-    if rest.is_empty() || rest[0] != b'*' {
-        return wrong();
-    }
-    match comment_len(&rest[1..]) {
-        Some(n) => Scan::Gap(n + 1),
+    match comment_more(rest) {
+        Some(more) => Scan::Gap(more),
         None => wrong(),
     }
+}
+
+fn gap_from(first: u8, rest: &[u8]) -> Option<usize>
+    ensures gap { result ≡ gap_in (lexeme first rest.now) }
+    ensures within { IfSome result (λ n. n ≤ length rest.now) }
+{
+    if tells_space(first) {
+        return Some(0);
+    }
+    if first != b'/' {
+        return None;
+    }
+    comment_more(rest)
+}
+
+/// How many bytes the gap at the front of a text has after its first, if one is there.
+pub fn gap_at(text: &[u8]) -> Option<usize>
+    ensures gap { result ≡ gap_in (lexeme_at text.now) }
+    ensures within { IfSome result (λ n. n < length text.now) }
+{
+    if text.is_empty() {
+        return None;
+    }
+    gap_from(text[0], &text[1..])
+}
+
+// A sign belongs to the word right behind it.
+fn signed_more(text: &[u8], rest: &[u8]) -> Option<usize>
+    requires { text.now ≡ 45 ∷ rest.now }
+    ensures word { result ≡ word_in (signed_lexeme rest.now) }
+    ensures lexeme { IfSome result (λ more. signed_lexeme rest.now ≡ Lexed (Word (take (1 + more) text.now)) more) }
+    ensures within { IfSome result (λ n. n ≤ length rest.now) }
+{
+    let more = word_len(rest);
+    if more == 0 {
+        return None;
+    }
+    Some(more)
+}
+
+fn word_from(text: &[u8], first: u8, rest: &[u8]) -> Option<usize>
+    requires { text.now ≡ first ∷ rest.now }
+    ensures word { result ≡ word_in (lexeme first rest.now) }
+    ensures lexeme { IfSome result (λ more. lexeme first rest.now ≡ Lexed (Word (take (1 + more) text.now)) more) }
+    ensures within { IfSome result (λ n. n ≤ length rest.now) }
+{
+    if tells_word(first) {
+        return Some(word_len(rest));
+    }
+    if first != b'-' {
+        return None;
+    }
+    signed_more(text, rest)
+}
+
+/// How many bytes the word at the front of a text has after its first, if one is there.
+pub fn word_at_front(text: &[u8]) -> Option<usize>
+    ensures word { result ≡ word_in (lexeme_at text.now) }
+    ensures lexeme { IfSome result (λ more. lexeme_at text.now ≡ Lexed (Word (take (1 + more) text.now)) more) }
+    ensures within { IfSome result (λ n. n < length text.now) }
+{
+    if text.is_empty() {
+        return None;
+    }
+    word_from(text, text[0], &text[1..])
 }
 
 // What stands at the front of a text that begins so.

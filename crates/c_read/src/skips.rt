@@ -1,6 +1,6 @@
 // Single tokens.
-ghost use Rattle.std.specs.Prelude.{◌≡◌, ◌∷◌, MatchBool, OnOk, IfOk, IsTrue};
-ghost use Rattle.std.specs.Option.{option_copied, is_some};
+ghost use Rattle.std.specs.Prelude.{◌≡◌, ◌∷◌, OnOk, IfOk, IsTrue};
+ghost use Rattle.std.specs.Option.{is_some};
 ghost use Rattle.c_tree.specs.Lexical.{Word, Mark};
 ghost use Rattle.c_tree.specs.Spelling.{type_text};
 ghost use Rattle.c_tree.specs.Names.{is_entry_name, is_global_name, is_local_name, is_end_label_name, is_target_name};
@@ -15,35 +15,12 @@ use c_tree::{CTy, names_end_label, names_entry, names_global, names_local, names
 use scheme_data::Text;
 use std::alloc::Global;
 
-/// Takes this mark, if it is next.
-pub fn took(tokens: &mut Tokens<'_>, mark: u8) -> bool
-    ensures { MatchBool result ((after_mark mark tokens.old ≡ Some tokens.new) × (tokens.old ≡ Mark mark ∷ tokens.new)) ((after_mark mark tokens.old ≡ None) × (tokens.new ≡ tokens.old)) }
-{
-    if !is_next(tokens, mark) {
-        return false;
-    }
-    let _ = tokens.pop();
-    true
-}
-
-fn is_next(tokens: &Tokens<'_>, mark: u8) -> bool
-    ensures { result ≡ is_some (after_mark mark tokens.now) }
-{
-    match tokens.top() {
-        Some(token) => token.is_mark(mark),
-        None => false,
-    }
-}
-
 /// Takes this mark.
 pub fn skip(tokens: &mut Tokens<'_>, mark: u8) -> Result<(), Stop>
     ensures read { Skipped (after_mark mark tokens.old) result tokens.new }
     ensures spelled { OnOk result (tokens.old ≡ Mark mark ∷ tokens.new) }
 {
-    let Some(token) = tokens.pop() else {
-        return Err(Stop::Wrong);
-    };
-    if token.is_mark(mark) {
+    if tokens.take_mark(mark) {
         return Ok(());
     }
     Err(Stop::Wrong)
@@ -54,10 +31,7 @@ pub fn word<'a>(tokens: &mut Tokens<'a>) -> Result<&'a [u8], Stop>
     ensures read { TookAs lent (word_first tokens.old) result tokens.new }
     ensures spelled { IfOk result (λ w. tokens.old ≡ Word w.now ∷ tokens.new) }
 {
-    let Some(token) = tokens.pop() else {
-        return Err(Stop::Wrong);
-    };
-    match token.into_word() {
+    match tokens.take_word() {
         Some(word) => Ok(word),
         None => Err(Stop::Wrong),
     }
@@ -147,25 +121,16 @@ pub fn type_word(tokens: &mut Tokens<'_>) -> Result<CTy, Stop>
     }
 }
 
-fn next_word<'a>(tokens: &Tokens<'a>) -> Option<&'a [u8]>
-    ensures { option_copied result ≡ first_word tokens.now }
-{
-    match tokens.top() {
-        Some(token) => token.as_word(),
-        None => None,
-    }
-}
-
 pub fn is_word_next(tokens: &Tokens<'_>) -> bool
     ensures { result ≡ is_first any_word tokens.now }
 {
-    next_word(tokens).is_some()
+    tokens.next_word().is_some()
 }
 
 pub fn is_type_next(tokens: &Tokens<'_>) -> bool
     ensures { result ≡ is_first is_type tokens.now }
 {
-    match next_word(tokens) {
+    match tokens.next_word() {
         Some(word) => type_by_name(word).is_some(),
         None => false,
     }
@@ -174,7 +139,7 @@ pub fn is_type_next(tokens: &Tokens<'_>) -> bool
 pub fn is_extern_next(tokens: &Tokens<'_>) -> bool
     ensures { result ≡ is_first is_extern tokens.now }
 {
-    match next_word(tokens) {
+    match tokens.next_word() {
         Some(word) => has_text(word, b"extern"),
         None => false,
     }
@@ -183,7 +148,7 @@ pub fn is_extern_next(tokens: &Tokens<'_>) -> bool
 pub fn is_void_next(tokens: &Tokens<'_>) -> bool
     ensures { result ≡ is_first is_void tokens.now }
 {
-    match next_word(tokens) {
+    match tokens.next_word() {
         Some(word) => has_text(word, b"void"),
         None => false,
     }

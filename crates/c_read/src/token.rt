@@ -49,44 +49,6 @@ impl<'a> CToken<'a> {
         self.part
     }
 
-    /// The word that it is.
-    pub fn into_word(self) -> Option<&'a [u8]>
-        ensures value { option_copied result ≡ word_of self.entry }
-        ensures spelled { IfSome result (λ w. self.entry ≡ Word w.now) }
-    {
-        match self.part {
-            Part::Word(word) => Some(word),
-            Part::Mark(_) => None,
-            Part::Str(_) => None,
-            Part::Bad => None,
-        }
-    }
-
-    /// Whether it is this mark.
-    pub fn is_mark(&self, mark: u8) -> bool
-        ensures value { result ≡ is_that_mark mark self.now }
-        ensures spelled { IsTrue result → self.now ≡ Mark mark }
-    {
-        match &self.part {
-            Part::Mark(m) => *m == mark,
-            Part::Word(_) => false,
-            Part::Str(_) => false,
-            Part::Bad => false,
-        }
-    }
-
-    /// The word that it is.
-    pub fn as_word(&self) -> Option<&'a [u8]>
-        ensures { option_copied result ≡ word_of self.now }
-    {
-        match &self.part {
-            Part::Word(word) => Some(*word),
-            Part::Mark(_) => None,
-            Part::Str(_) => None,
-            Part::Bad => None,
-        }
-    }
-
     /// Its kind.
     pub fn kind(&self) -> Kind
         ensures { result ≡ token_kind self.now }

@@ -1,53 +1,46 @@
 // The tokens of a text, scanned one by one as they are taken.
-ghost use Rattle.std.specs.Prelude.{◌≡◌, ◌∷◌, [], ◌↔◌, IsTrue, MatchOption};
+ghost use Rattle.std.specs.Prelude.{◌≡◌, ◌∷◌, [], ◌↔◌, IsTrue, MatchBool, MatchOption, Some, None, true};
 ghost use Rattle.std.specs.Option.{option_copied};
-ghost use Rattle.c_tree.specs.Lexical.{tokens};
-ghost use Rattle.c_read.specs.Sequences.{front};
-ghost use Rattle.c_read.specs.Lefts.{left_of};
+ghost use Rattle.c_tree.specs.Lexical.{Word, Mark, tokens};
+ghost use Rattle.c_read.specs.Sequences.{after_mark, word_first, first_word};
+ghost use Rattle.c_read.specs.Fronts.{is_ready};
 
-use crate::lex::{Scan, scan_at};
+use crate::lex::{Scan, behind_blanks, gap_at, scan_at, tells_mark, word_at_front};
 use crate::token::CToken;
 use std::marker::Model;
-use std::mem;
 
-/// The first token that is left, with the text behind it.
-#[derive(Drop)]
-pub enum Left<'a> {
-    End,
-    At(CToken<'a>, &'a [u8]),
-}
-
-/// The tokens of a text that aren't taken yet. No list of them is kept.
+/// The tokens of a text that aren't taken yet, as the text from the first of them on. No list of them is kept.
 #[derive(Drop)]
 pub struct Tokens<'a> {
-    left: Left<'a>,
+    text: &'a [u8],
 }
 
 impl<'a> Model for Tokens<'a> {
-    ghost use Rattle.std.specs.Prelude.{List};
+    ghost use Rattle.std.specs.Prelude.{◌≡◌, List, true};
     ghost use Rattle.std.specs.Coded.{coded_list};
-    ghost use Rattle.c_tree.specs.Lexical.{Token};
+    ghost use Rattle.c_tree.specs.Lexical.{Token, tokens};
     ghost use Rattle.c_read.specs.Tokens.{coded_token};
-    ghost use Rattle.c_read.specs.Lefts.{left_of};
+    ghost use Rattle.c_read.specs.Fronts.{is_ready};
 
     ghost Value = { List Token };
 
     ghost coded = { coded_list coded_token };
 
-    ghost view = { λ t. left_of t.left };
+    ghost view = { λ t. tokens t.text.now };
+
+    ghost invariant = { λ t. is_ready t.text.now ≡ true };
 }
 
-fn left_in<'a>(text: &'a [u8]) -> Left<'a>
-    ensures { left_of result ≡ tokens text.now }
+// A text from its first token on.
+fn behind_gaps<'a>(text: &'a [u8]) -> &'a [u8]
+    ensures same { tokens result.now ≡ tokens text.now }
+    ensures ready { is_ready result.now ≡ true }
 {
-    let mut rest = text;
-    while rest.len() > 0 {
-        match scan_at(rest) {
-            Scan::Gap(more) => rest = &rest[1 + more..],
-            Scan::Lexed(token, more) => return Left::At(token, &rest[1 + more..]),
-        }
+    let mut rest = behind_blanks(text);
+    while let Some(more) = gap_at(rest) {
+        rest = behind_blanks(&rest[1 + more..]);
     }
-    Left::End
+    rest
 }
 
 impl<'a> Tokens<'a> {
@@ -56,7 +49,7 @@ impl<'a> Tokens<'a> {
         ensures { result ≡ tokens text.now }
     {
         Tokens {
-            left: left_in(text),
+            text: behind_gaps(text),
         }
     }
 
@@ -64,30 +57,53 @@ impl<'a> Tokens<'a> {
     pub fn is_empty(&self) -> bool
         ensures { IsTrue result ↔ (self.now ≡ []) }
     {
-        match &self.left {
-            Left::End => true,
-            Left::At(_, _) => false,
-        }
+        self.text.is_empty()
     }
 
-    /// The next token.
-    pub fn top(&self) -> Option<&CToken<'a>>
-        ensures { option_copied result ≡ front self.now }
+    /// The word that is next, if one is.
+    pub fn next_word(&self) -> Option<&'a [u8]>
+        ensures { option_copied result ≡ first_word self.now }
     {
-        match &self.left {
-            Left::End => None,
-            Left::At(token, _) => Some(token),
+        let Some(more) = word_at_front(self.text) else {
+            return None;
+        };
+        Some(&self.text[..1 + more])
+    }
+
+    /// Takes this mark, if it is next.
+    pub fn take_mark(&mut self, mark: u8) -> bool
+        ensures { MatchBool result ((after_mark mark self.old ≡ Some self.new) × (self.old ≡ Mark mark ∷ self.new)) ((after_mark mark self.old ≡ None) × (self.new ≡ self.old)) }
+    {
+        if !tells_mark(mark) || self.text.is_empty() || self.text[0] != mark {
+            return false;
         }
+        self.text = behind_gaps(&self.text[1..]);
+        true
+    }
+
+    /// Takes the word that is next, if one is.
+    pub fn take_word(&mut self) -> Option<&'a [u8]>
+        ensures { MatchOption result ((word_first self.old ≡ None) × (self.new ≡ self.old)) (λ word. self.old ≡ Word word.now ∷ self.new) }
+    {
+        let Some(more) = word_at_front(self.text) else {
+            return None;
+        };
+        let word = &self.text[..1 + more];
+        self.text = behind_gaps(&self.text[1 + more..]);
+        Some(word)
     }
 
     /// Takes the next token.
     pub fn pop(&mut self) -> Option<CToken<'a>>
         ensures { MatchOption result ((self.old ≡ []) × (self.new ≡ [])) (λ top. self.old ≡ top ∷ self.new) }
     {
-        match mem::replace(&mut self.left, Left::End) {
-            Left::End => None,
-            Left::At(token, rest) => {
-                self.left = left_in(rest);
+        if self.text.is_empty() {
+            return None;
+        }
+        match scan_at(self.text) {
+            Scan::Gap(_) => unreachable!(),
+            Scan::Lexed(token, more) => {
+                self.text = behind_gaps(&self.text[1 + more..]);
                 Some(token)
             }
         }

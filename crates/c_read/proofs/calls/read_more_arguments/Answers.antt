@@ -25,9 +25,9 @@ loop-alloc-preserved c =
     let is : c.push-in-loop-alloc.new.self ≡ c.loop-alloc.args ++ c.in_ok-arg.arg ∷ [] = c.in_ok-push-2.ensures.ok in
     let none = c.loop-alloc-test.ensures in
     record {
-      going = goes_on c.loop-alloc.invariant.going c.took.new.tokens c.read_next_argument.new.tokens c.in_ok-arg.arg c.push-in-loop-alloc.new.self none.1 none.0 c.in_ok-arg.ensures.read
-          (argument_fewer c.took.new.tokens c.read_next_argument.new.tokens c.in_ok-arg.arg c.in_ok-arg.ensures.spelled.0) is;
-      spelled = spelled_on argument_tokens (argument_tokens_of c.args.first c.args.tokens.now) c.loop-alloc.tokens c.took.new.tokens (Mark 44 ∷ argument_tokens_of c.in_ok-arg.arg c.read_next_argument.new.tokens) c.read_next_argument.new.tokens c.loop-alloc.args c.push-in-loop-alloc.new.self c.in_ok-arg.arg
+      going = goes_on c.loop-alloc.invariant.going c.take_mark.new.self c.read_next_argument.new.tokens c.in_ok-arg.arg c.push-in-loop-alloc.new.self none.1 none.0 c.in_ok-arg.ensures.read
+          (argument_fewer c.take_mark.new.self c.read_next_argument.new.tokens c.in_ok-arg.arg c.in_ok-arg.ensures.spelled.0) is;
+      spelled = spelled_on argument_tokens (argument_tokens_of c.args.first c.args.tokens.now) c.loop-alloc.tokens c.take_mark.new.self (Mark 44 ∷ argument_tokens_of c.in_ok-arg.arg c.read_next_argument.new.tokens) c.read_next_argument.new.tokens c.loop-alloc.args c.push-in-loop-alloc.new.self c.in_ok-arg.arg
           c.loop-alloc.invariant.spelled none.1 c.in_ok-arg.ensures.spelled.0 (arguments_more c.loop-alloc.args c.in_ok-arg.arg c.read_next_argument.new.tokens c.loop-alloc.invariant.some) is;
       named = λ h. subst NamedArguments (sym is) (named_arguments_more c.loop-alloc.args c.in_ok-arg.arg (c.loop-alloc.invariant.named h) c.in_ok-arg.ensures.spelled.1);
       some = omega (arith, ap length is, length-append {A = CArg});
@@ -37,7 +37,7 @@ pub returns-in_err-arg-clause-read : goal.returns-in_err-arg-clause-read
 returns-in_err-arg-clause-read c =
     let none = c.loop-alloc-test.ensures in
     let p = err_from_is_err_and c.from_residual-in_err-arg.result c.from_residual-in_err-arg.ensures.1 in
-    rw (p.1, p.2) (stops c.loop-alloc.invariant.going c.took.new.tokens c.read_next_argument.new.tokens c.read_next_argument.new.tokens c.in_err-arg.field-0.0 none.1 none.0 c.in_err-arg.ensures.read)
+    rw (p.1, p.2) (stops c.loop-alloc.invariant.going c.take_mark.new.self c.read_next_argument.new.tokens c.read_next_argument.new.tokens c.in_err-arg.field-0.0 none.1 none.0 c.in_err-arg.ensures.read)
 
 pub returns-clause-read : goal.returns-clause-read
-returns-clause-read c = going_ended c.loop-alloc.invariant.going c.took.new.tokens c.loop-alloc-test.ensures.0
+returns-clause-read c = going_ended c.loop-alloc.invariant.going c.take_mark.new.self c.loop-alloc-test.ensures.0

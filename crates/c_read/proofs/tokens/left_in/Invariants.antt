@@ -1,9 +1,0 @@
-use Rattle.std.proofs.Common.{◌≡◌, ◌≤◌, length}
-use Rattle.c_tree.specs.Lexical.{tokens}
-use Rattle.c_read.proofs.tokens.left_in.Given as goal
-
-abbrev pub invariant-loop-rest : goal.invariant-loop-rest
-invariant-loop-rest l = (tokens l.rest ≡ tokens l.text) × (length l.rest ≤ length l.text)
-
-abbrev pub decreases-loop-rest : goal.decreases-loop-rest
-decreases-loop-rest l = length l.rest
