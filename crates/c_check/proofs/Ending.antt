@@ -14,6 +14,7 @@ use Rattle.c_meaning.specs.Plain.{is_called_once, defined_names}
 use Rattle.c_meaning.specs.Breaches.{unless, has}
 use Rattle.c_meaning.specs.Checked.{breach, name_of_item, items_breaches, used_by, wanted_breaches, ends_breaches, main_breaches, breaches, IsChecked}
 use Rattle.c_check.specs.Firsts.{first}
+use Rattle.c_check.specs.Used.{SameOf, IsUsedBy}
 use Rattle.c_check.proofs.Firsts.{first_found, first_missed}
 use Rattle.c_check.proofs.ItemWalk.{first-map}
 
@@ -45,29 +46,29 @@ pub main_is_there : (names : List (List ℕ)) → has names (codes "main") ≡ l
 main_is_there [] = refl
 main_is_there (x ∷ xs) = λ i. nat_list_eq_equiv.symm (codes "main") x i || main_is_there xs i
 
-module _ (used used2 names names2 : List (List ℕ)) (u : (n : List ℕ) → has used n ≡ has used2 n) (d : (n : List ℕ) → has names n ≡ has names2 n) where
-  wanted-same : (n : List ℕ) → wanted_breaches used names n ≡ wanted_breaches used2 names2 n
-  wanted-same n = λ i. unless Undeclared (not (u n i) || d n i) ++ unless Shape (not (is_called_once n) || u n i)
+module _ (used used2 names names2 : List (List ℕ)) (d : (n : List ℕ) → has names n ≡ has names2 n) where
+  wanted-same : (n : List ℕ) → has used n ≡ has used2 n → wanted_breaches used names n ≡ wanted_breaches used2 names2 n
+  wanted-same n u = λ i. unless Undeclared (not (u i) || d n i) ++ unless Shape (not (is_called_once n) || u i)
 
-  pub ends-same : (is : List Item) → ends_breaches used names is ≡ ends_breaches used2 names2 is
-  ends-same [] = refl
-  ends-same (i ∷ is) = λ j. map (breach (name_of_item i)) (wanted-same (name_of_item i) j) ++ ends-same is j
+  pub ends-same : (is : List CItem) → SameOf is used used2 → ends_breaches used names (items_of is) ≡ ends_breaches used2 names2 (items_of is)
+  ends-same [] u = refl
+  ends-same (i ∷ is) u = λ j. map (breach (name_of_item (item_of i))) (wanted-same (name_of_item (item_of i)) u.0 j) ++ ends-same is u.1 j
 
   pub main-same : main_breaches names ≡ main_breaches names2
   main-same = ap (λ b. map (breach (codes "main")) (unless Shape b)) (sym (main_is_there names) ∙ d (codes "main") ∙ main_is_there names2)
 
-module _ (used names : List (List ℕ)) (is : List Item) (u : (n : List ℕ) → has used n ≡ has (flat_map used_by is) n) (d : (n : List ℕ) → has names n ≡ has (defined_names is) n) (o : Option Breach) (found : o ≡ first (ends_breaches used names is)) where
-  same_ends : first (ends_breaches used names is) ≡ first (ends_breaches (flat_map used_by is) (defined_names is) is)
-  same_ends = ap first (ends-same used (flat_map used_by is) names (defined_names is) u d is)
+module _ (used names : List (List ℕ)) (items : List CItem) (u : IsUsedBy items used) (d : (n : List ℕ) → has names n ≡ has (defined_names (items_of items)) n) (o : Option Breach) (found : o ≡ first (ends_breaches used names (items_of items))) where
+  same_ends : first (ends_breaches used names (items_of items)) ≡ first (ends_breaches (flat_map used_by (items_of items)) (defined_names (items_of items)) (items_of items))
+  same_ends = ap first (ends-same used (flat_map used_by (items_of items)) names (defined_names (items_of items)) d items u)
 
-  pub end_wanted : (b : Breach) → o ≡ Some b → Some b ≡ first (ends_breaches (flat_map used_by is) (defined_names is) is ++ main_breaches (defined_names is))
+  pub end_wanted : (b : Breach) → o ≡ Some b → Some b ≡ first (ends_breaches (flat_map used_by (items_of items)) (defined_names (items_of items)) (items_of items) ++ main_breaches (defined_names (items_of items)))
   end_wanted b some =
-      sym (first_found (ends_breaches (flat_map used_by is) (defined_names is) is) (main_breaches (defined_names is)) b (sym (found ∙ same_ends) ∙ some))
+      sym (first_found (ends_breaches (flat_map used_by (items_of items)) (defined_names (items_of items)) (items_of items)) (main_breaches (defined_names (items_of items))) b (sym (found ∙ same_ends) ∙ some))
 
-  pub end_main : o ≡ None → (m : Option Breach) → m ≡ first (main_breaches names) → m ≡ first (ends_breaches (flat_map used_by is) (defined_names is) is ++ main_breaches (defined_names is))
+  pub end_main : o ≡ None → (m : Option Breach) → m ≡ first (main_breaches names) → m ≡ first (ends_breaches (flat_map used_by (items_of items)) (defined_names (items_of items)) (items_of items) ++ main_breaches (defined_names (items_of items)))
   end_main none m main =
-      main ∙ ap first (main-same used (flat_map used_by is) names (defined_names is) u d)
-      ∙ sym (first_missed (ends_breaches (flat_map used_by is) (defined_names is) is) (main_breaches (defined_names is)) (sym (found ∙ same_ends) ∙ none))
+      main ∙ ap first (main-same used (flat_map used_by (items_of items)) names (defined_names (items_of items)) d)
+      ∙ sym (first_missed (ends_breaches (flat_map used_by (items_of items)) (defined_names (items_of items)) (items_of items)) (main_breaches (defined_names (items_of items))) (sym (found ∙ same_ends) ∙ none))
 
 -- The whole text --------------------------------------------------------------------------------
 

@@ -44,3 +44,14 @@ pair_found p q s r a b c is here behind some =
     by None None h = absurd (cc)
     by None (Some x) h = h
     by (Some x) u h = h
+
+-- of the last of four, where nothing is in front of it
+pub late_found : (p q s t : List BadCause) (r a b u w : Option BadCause) (c : BadCause) → r ≡ option_or a b → a ≡ first p → b ≡ first q → r ≡ None → u ≡ first s → u ≡ None → w ≡ first t → w ≡ Some c → first (p ++ (q ++ (s ++ t))) ≡ Some c
+late_found p q s t r a b u w c is here behind none third missed last some =
+    let both : (a ≡ None) × (b ≡ None) = apart a b (sym is ∙ none) in
+    first_missed p (q ++ (s ++ t)) (sym here ∙ both.0) ∙ first_missed q (s ++ t) (sym behind ∙ both.1) ∙ first_missed s t (sym third ∙ missed) ∙ sym last ∙ some
+  where
+    apart : (x y : Option BadCause) → option_or x y ≡ None → (x ≡ None) × (y ≡ None)
+    apart None None h = (refl, refl)
+    apart None (Some v) h = absurd (cc)
+    apart (Some v) y h = absurd (cc)

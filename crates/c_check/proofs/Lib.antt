@@ -10,6 +10,7 @@ pub mod HeadParts
 pub mod ItemWalk
 pub mod Keys
 pub mod Knowing
+pub mod Numbered
 pub mod Passing
 pub mod Rest
 pub mod Using

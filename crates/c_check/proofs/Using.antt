@@ -1,6 +1,7 @@
--- Names that are noted one after another.
-use Rattle.std.proofs.Common.{◌≡◌, ℕ, ◌+◌, ◌≤◌, Bool, ◌||◌, List, [], ◌∷◌, ◌++◌, map, length, drop, refl, sym, ap, ◌∙◌, append_assoc}
-use Rattle.std.specs.List.{list_any, flat_map}
+-- Names that are used, noted one after another.
+use Rattle.std.proofs.Common.{◌≡◌, ℕ, ◌+◌, ◌≤◌, Bool, true, false, not, ◌&&◌, ◌||◌, List, [], ◌∷◌, ◌++◌, map, length, drop, refl, sym, ap, ◌∙◌, append_assoc}
+use Rattle.std.specs.List.{list_any, list_all, flat_map}
+use Rattle.std.proofs.lemmas.Bool.{and_parts}
 use Rattle.std.proofs.lemmas.List.{drop_all}
 use Rattle.std.proofs.lemmas.List.Folds.{list_any-append}
 use Rattle.scheme_data.specs.Names.{is_same}
@@ -9,12 +10,12 @@ use Rattle.c_tree.specs.declared.pieces.Piece.TheVariants as piece
 use Rattle.c_tree.specs.declared.pieces.PieceRef.{PieceRef}
 use Rattle.c_tree.specs.Code.{Code, done, assign, call, return, test, loop, ended, goto, catch, protect}
 use Rattle.c_tree.specs.Pieces.{pieces, piece_of}
-use Rattle.c_meaning.specs.Breaches.{has, is_function}
+use Rattle.c_meaning.specs.Breaches.{has}
 use Rattle.c_tree.specs.declared.function.CItem.{CItem}
 use Rattle.c_tree.specs.Functions.{item_of, items_of}
-use Rattle.c_meaning.specs.Checked.{used_in_call, used_in_expr, used_in, used_by}
-use Rattle.c_check.specs.Agreeing.{IsNoted}
-use Rattle.c_check.specs.Used.{piece_used, used_pieces}
+use Rattle.c_meaning.specs.Checked.{name_of_item, used_in_call, used_in_expr, used_in, used_by}
+use Rattle.c_check.specs.declared.used.Noted.{Noted}
+use Rattle.c_check.specs.Used.{piece_used, used_pieces, begins_as_local, is_left_out, IsUsed, stands_out, SameOf, IsUsedBy}
 
 append-nil : {A : Type 0} (xs : List A) → xs ++ [] ≡ xs
 append-nil [] = refl
@@ -25,35 +26,51 @@ some-behind : (p : List ℕ → Bool) (old a mid b : List (List ℕ)) → list_a
 some-behind p old a mid b is =
     list_any-append p mid b ∙ ap (λ q. q || list_any p b) is ∙ sym (list_any-append p (old ++ a) b) ∙ ap (list_any p) (append_assoc old a b)
 
-pub noted-both : (old a mid b new : List (List ℕ)) → IsNoted old a mid → IsNoted mid b new → IsNoted old (a ++ b) new
-noted-both old a mid b new first second = record {
-  found = λ n. second.found n ∙ some-behind (is_same n) old a mid b (first.found n);
-  calls = second.calls ∙ some-behind is_function old a mid b first.calls;
+pub used-both : (old : Noted) (a : List (List ℕ)) (mid : Noted) (b : List (List ℕ)) (new : Noted) → IsUsed old a mid → IsUsed mid b new → IsUsed old (a ++ b) new
+used-both old a mid b new first second = record {
+  skips = second.skips ∙ first.skips;
+  found = λ n out. second.found n (ap (λ s. is_left_out s n) first.skips ∙ out) ∙ some-behind (is_same n) old.names a mid.names b (first.found n out);
 }
 
-pub noted-as : (old a b new : List (List ℕ)) → a ≡ b → IsNoted old a new → IsNoted old b new
-noted-as old a b new is noted = record {
-  found = λ n. noted.found n ∙ ap (λ l. has (old ++ l) n) is;
-  calls = noted.calls ∙ ap (λ l. list_any is_function (old ++ l)) is;
+pub used-as : (old : Noted) (a b : List (List ℕ)) (new : Noted) → a ≡ b → IsUsed old a new → IsUsed old b new
+used-as old a b new is noted = record {
+  skips = noted.skips;
+  found = λ n out. noted.found n out ∙ ap (λ l. has (old.names ++ l) n) is;
 }
 
 -- A loop over what uses names
-module _ {X : Type 0} (uses : X → List (List ℕ)) (start : List (List ℕ)) (xs : List X) where
-  pub record NotedFrom (i : ℕ) (now : List (List ℕ)) : Type 0 where
-    pub found : (n : List ℕ) → has (now ++ flat_map uses (drop i xs)) n ≡ has (start ++ flat_map uses xs) n
-    pub calls : list_any is_function (now ++ flat_map uses (drop i xs)) ≡ list_any is_function (start ++ flat_map uses xs)
+module _ {X : Type 0} (uses : X → List (List ℕ)) (start : Noted) (xs : List X) where
+  pub record UsedFrom (i : ℕ) (now : Noted) : Type 0 where
+    pub skips : now.skips ≡ start.skips
+    pub found : (n : List ℕ) → is_left_out start.skips n ≡ false → has (now.names ++ flat_map uses (drop i xs)) n ≡ has (start.names ++ flat_map uses xs) n
 
-  pub noted_on : (i : ℕ) (now next : List (List ℕ)) → NotedFrom i now → (x : X) → drop i xs ≡ x ∷ drop (i + 1) xs → IsNoted now (uses x) next → NotedFrom (i + 1) next
-  noted_on i now next so_far x at noted = record {
-    found = λ n. some-behind (is_same n) now (uses x) next (flat_map uses (drop (i + 1) xs)) (noted.found n) ∙ ap (λ l. has (now ++ flat_map uses l) n) (sym at) ∙ so_far.found n;
-    calls = some-behind is_function now (uses x) next (flat_map uses (drop (i + 1) xs)) noted.calls ∙ ap (λ l. list_any is_function (now ++ flat_map uses l)) (sym at) ∙ so_far.calls;
+  pub used_on : (i : ℕ) (now next : Noted) → UsedFrom i now → (x : X) → drop i xs ≡ x ∷ drop (i + 1) xs → IsUsed now (uses x) next → UsedFrom (i + 1) next
+  used_on i now next so_far x at noted = record {
+    skips = noted.skips ∙ so_far.skips;
+    found = λ n out.
+        some-behind (is_same n) now.names (uses x) next.names (flat_map uses (drop (i + 1) xs)) (noted.found n (ap (λ s. is_left_out s n) so_far.skips ∙ out))
+        ∙ ap (λ l. has (now.names ++ flat_map uses l) n) (sym at) ∙ so_far.found n out;
   }
 
-  pub noted_end : (i : ℕ) (now : List (List ℕ)) → NotedFrom i now → length xs ≤ i → IsNoted start (flat_map uses xs) now
-  noted_end i now so_far over = record {
-    found = λ n. ap (λ l. has l n) (sym (append-nil now)) ∙ ap (λ l. has (now ++ flat_map uses l) n) (sym (drop_all i xs over)) ∙ so_far.found n;
-    calls = ap (list_any is_function) (sym (append-nil now)) ∙ ap (λ l. list_any is_function (now ++ flat_map uses l)) (sym (drop_all i xs over)) ∙ so_far.calls;
+  pub used_end : (i : ℕ) (now : Noted) → UsedFrom i now → length xs ≤ i → IsUsed start (flat_map uses xs) now
+  used_end i now so_far over = record {
+    skips = so_far.skips;
+    found = λ n out. ap (λ l. has l n) (sym (append-nil now.names)) ∙ ap (λ l. has (now.names ++ flat_map uses l) n) (sym (drop_all i xs over)) ∙ so_far.found n out;
   }
+
+-- where no item has a name that is left out, all that matters is found
+pub used-of : (items : List CItem) (skips : Bool) (names others : List (List ℕ)) → (skips ≡ true → list_all stands_out items ≡ true) → ((n : List ℕ) → is_left_out skips n ≡ false → has names n ≡ has others n) → SameOf items names others
+used-of [] skips names others out same = tt
+used-of (i ∷ is) skips names others out same =
+    (same (name_of_item (item_of i)) (kept skips out), used-of is skips names others (λ s. (and_parts (stands_out i) (list_all stands_out is) (out s)).1) same)
+  where
+    not_so : (b : Bool) → not b ≡ true → b ≡ false
+    not_so true h = absurd (cc)
+    not_so false h = refl
+
+    kept : (s : Bool) → (s ≡ true → (stands_out i && list_all stands_out is) ≡ true) → is_left_out s (name_of_item (item_of i)) ≡ false
+    kept true h = not_so (begins_as_local (name_of_item (item_of i))) (and_parts (stands_out i) (list_all stands_out is) (h refl)).0
+    kept false h = refl
 
 -- Pieces
 abbrev pub uses_at : PieceRef → List (List ℕ)
@@ -101,3 +118,11 @@ used-so c = uses c [] ∙ append-nil (used_in c)
 pub items-flat : (items : List CItem) → flat_map (λ item. used_by (item_of item)) items ≡ flat_map used_by (items_of items)
 items-flat [] = refl
 items-flat (i ∷ is) = ap (λ l. used_by (item_of i) ++ l) (items-flat is)
+
+-- all items were gone through
+pub used_all : (items : List CItem) (fresh : List (List ℕ)) (skipping : Bool) (i : ℕ) (now : Noted) → fresh ≡ [] → skipping ≡ list_all stands_out items
+    → UsedFrom (λ item. used_by (item_of item)) (record { names = fresh; skips = skipping }) items i now → length items ≤ i → IsUsedBy items now.names
+used_all items fresh skipping i now none is so_far over =
+    let noted = used_end (λ item. used_by (item_of item)) (record { names = fresh; skips = skipping }) items i now so_far over in
+    used-of items skipping now.names (flat_map used_by (items_of items)) (λ on. sym is ∙ on)
+    (λ n out. noted.found n out ∙ ap (λ l. has (l ++ flat_map (λ item. used_by (item_of item)) items) n) none ∙ ap (λ l. has l n) (items-flat items))

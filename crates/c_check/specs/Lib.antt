@@ -5,6 +5,7 @@ pub mod Blocks
 pub mod Entries
 pub mod Firsts
 pub mod Heads
+pub mod Hints
 pub mod Keys
 pub mod Knowns
 pub mod Pieces

@@ -12,6 +12,7 @@ mod heads;
 mod items;
 mod known;
 mod named;
+mod places;
 mod role;
 mod room;
 mod scope;
@@ -22,6 +23,7 @@ mod used;
 mod variables;
 
 pub use checking::{CheckErr, Checked, check};
+pub use places::Places;
 
 #[cfg(test)]
 mod tests;

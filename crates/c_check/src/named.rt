@@ -3,7 +3,7 @@ ghost use Rattle.std.specs.Map.{lookup};
 ghost use Rattle.scheme_data.specs.Names.{is_same};
 ghost use Rattle.c_check.specs.Keys.{has_key, IsSet};
 
-use name_table::NameTable;
+use crate::places::Places;
 use scheme_data::OutOfMemory;
 use std::alloc::Global;
 use std::marker::Model;
@@ -11,7 +11,7 @@ use std::marker::Model;
 /// Values under distinct names, in order of first sight.
 #[derive(Drop)]
 pub struct Named<T> {
-    names: NameTable,
+    names: Places,
     // each at the place of its name
     values: Vec<T>,
 }
@@ -42,7 +42,7 @@ impl<T> Named<T> {
         ensures { result ≡ [] }
     {
         Named {
-            names: NameTable::new(alloc),
+            names: Places::new(alloc),
             values: Vec::new(alloc),
         }
     }

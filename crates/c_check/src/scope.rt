@@ -2,7 +2,7 @@ ghost use Rattle.std.specs.Prelude.{◌≡◌, is_some, option_copied, map};
 ghost use Rattle.std.specs.Option.{option_map};
 ghost use Rattle.c_tree.specs.Operations.{wants_of};
 ghost use Rattle.c_meaning.specs.Plain.{signature_named, variable_named, role_of};
-ghost use Rattle.c_meaning.specs.Breaches.{variable_type, atom_breaches, misplaced, argument_breaches, arguments_breaches, is_declared, result_asked, may_call, callee_breaches, operands_breaches, first_breaches, later_breaches, expr_breaches, local_breaches, standing};
+ghost use Rattle.c_meaning.specs.Breaches.{variable_type, atom_breaches, misplaced, argument_breaches, arguments_breaches, is_declared, may_call, callee_breaches, operands_breaches, first_breaches, later_breaches, expr_breaches, local_breaches, standing};
 ghost use Rattle.c_check.specs.Firsts.{first};
 ghost use Rattle.c_check.specs.Signatures.{signed};
 ghost use Rattle.c_check.specs.Asked.{wants_in, asks_more, wants_by, takes_more_by};
@@ -121,15 +121,6 @@ impl<'a> Scope<'a> {
         unless(BadCause::Types, asked.count() <= args.len())
     }
 
-    fn result_fits(&self, asked: Option<CTy>, name: &[u8]) -> bool
-        ensures { result ≡ result_asked asked (signature_named (scope_of self.now).functions name.now) }
-    {
-        match self.functions.shape(name) {
-            None => true,
-            Some(shape) => is_asked(asked, shape.gives),
-        }
-    }
-
     /// What is wrong with a call at the name of what is called.
     pub fn callee_fault(&self, asked: Option<CTy>, callee: &Callee) -> Option<BadCause>
         ensures { result ≡ first (callee_breaches (scope_of self.now) asked callee.now) }
@@ -146,10 +137,13 @@ impl<'a> Scope<'a> {
     fn function_fault(&self, asked: Option<CTy>, name: &[u8]) -> Option<BadCause>
         ensures { result ≡ first (callee_breaches (scope_of self.now) asked (Callee.Fun name.now)) }
     {
-        unless(BadCause::Undeclared, self.is_declared(name)).or(unless(
-            BadCause::Types,
-            self.result_fits(asked, name),
-        ).or(unless(BadCause::Shape, self.role.may_call(&self.called, name))))
+        match self.functions.shape(name) {
+            None => Some(BadCause::Undeclared),
+            Some(shape) => unless(BadCause::Types, is_asked(asked, shape.gives)).or(unless(
+                BadCause::Shape,
+                self.role.may_call(&self.called, name),
+            )),
+        }
     }
 
     fn asked_by(&self, callee: &Callee) -> Asked<'_>

@@ -8,6 +8,7 @@ ghost use Rattle.c_machine.specs.Decoded.{last_of, code_of, has_distinct, functi
 use crate::lines::Decoding;
 use crate::names::{names_in_function, names_of_functions, place};
 use crate::program::{Function, Instr, Line};
+use c_check::Places;
 use c_tree::{CFun, CItem, CStmt, pieces_in};
 use name_table::NameTable;
 use scheme_data::{List, OutOfMemory};
@@ -25,7 +26,7 @@ fn last(f: &CFun) -> Instr
 
 fn code(
     alloc: Global,
-    names: &NameTable,
+    names: &Places,
     funs: &NameTable,
     f: &CFun,
 ) -> Result<List<Line>, OutOfMemory>

@@ -3,21 +3,22 @@ ghost use Rattle.std.specs.Prelude.{◌≡◌, map, slice_get, IfOk};
 ghost use Rattle.built_table.specs.Table.{built};
 ghost use Rattle.c_machine.specs.Decoded.{operand_of, operand_in, operand_at, operands_in, code_in, text_in, no_action, action_by, action_of, call_of, expr_instr};
 
-use crate::names::place;
+use crate::names::{local_place, place};
 use crate::program::{Action, Instr, Operand, Operands, Target};
 use crate::words::{EOF, FALSE, NIL, TRUE, UNSPEC, bits_of, byte};
 use built_table::Primitive;
+use c_check::Places;
 use c_tree::{CArg, CAtom, CCall, CExpr, Callee, Op};
 use name_table::NameTable;
 use scheme_data::{List, OutOfMemory, Text};
 use std::alloc::Global;
 
-fn atom(names: &NameTable, a: &CAtom) -> Operand
+fn atom(names: &Places, a: &CAtom) -> Operand
     ensures { result ≡ operand_of names.now a.now }
 {
     match a {
         CAtom::Int(n) => Operand::Word(bits_of(*n)),
-        CAtom::Name(x) => Operand::Local(place(names, x.as_bytes())),
+        CAtom::Name(x) => Operand::Local(local_place(names, x.as_bytes())),
         CAtom::Sym(_) => Operand::Word(UNSPEC),
         CAtom::False => Operand::Word(FALSE),
         CAtom::True => Operand::Word(TRUE),
@@ -27,7 +28,7 @@ fn atom(names: &NameTable, a: &CAtom) -> Operand
     }
 }
 
-fn argument(names: &NameTable, a: &CArg) -> Operand
+fn argument(names: &Places, a: &CArg) -> Operand
     ensures { result ≡ operand_in names.now a.now }
 {
     match a {
@@ -37,7 +38,7 @@ fn argument(names: &NameTable, a: &CArg) -> Operand
     }
 }
 
-fn argument_at(names: &NameTable, args: &List<CArg>, i: u64) -> Operand
+fn argument_at(names: &Places, args: &List<CArg>, i: u64) -> Operand
     ensures { result ≡ operand_at names.now args.now i }
 {
     match args.get(i) {
@@ -46,11 +47,7 @@ fn argument_at(names: &NameTable, args: &List<CArg>, i: u64) -> Operand
     }
 }
 
-fn arguments(
-    alloc: Global,
-    names: &NameTable,
-    args: &List<CArg>,
-) -> Result<List<Operand>, OutOfMemory>
+fn arguments(alloc: Global, names: &Places, args: &List<CArg>) -> Result<List<Operand>, OutOfMemory>
     ensures { IfOk result (λ operands. operands ≡ map (operand_in names.now) args.now) }
 {
     let mut operands = List::new(alloc);
@@ -78,7 +75,7 @@ fn text_at(alloc: Global, args: &List<CArg>) -> Result<Text, OutOfMemory>
     }
 }
 
-fn operands(names: &NameTable, args: &List<CArg>) -> Operands
+fn operands(names: &Places, args: &List<CArg>) -> Operands
     ensures { result ≡ operands_in names.now args.now }
 {
     Operands {
@@ -104,12 +101,7 @@ fn primitive(p: prim_table::Primitive, operands: Operands) -> Action
     }
 }
 
-fn action(
-    alloc: Global,
-    names: &NameTable,
-    op: Op,
-    args: &List<CArg>,
-) -> Result<Action, OutOfMemory>
+fn action(alloc: Global, names: &Places, op: Op, args: &List<CArg>) -> Result<Action, OutOfMemory>
     ensures { IfOk result (λ a. a ≡ action_of names.now op args.now) }
 {
     match op {
@@ -127,7 +119,7 @@ fn action(
 
 pub fn call(
     alloc: Global,
-    names: &NameTable,
+    names: &Places,
     funs: &NameTable,
     to: Target,
     c: &CCall,
@@ -146,7 +138,7 @@ pub fn call(
 
 pub fn expression(
     alloc: Global,
-    names: &NameTable,
+    names: &Places,
     funs: &NameTable,
     to: Target,
     e: &CExpr,

@@ -6,8 +6,9 @@ ghost use Rattle.c_machine.specs.Decoding.{started, put, shut, parted, begun, se
 ghost use Rattle.c_machine.specs.declared.program.Instr.TheVariants.{Give};
 
 use crate::instructions::{call, expression};
-use crate::names::place;
+use crate::names::local_place;
 use crate::program::{FIRST, Instr, Line, Target};
+use c_check::Places;
 use c_tree::{CStmt, PieceRef};
 use name_table::NameTable;
 use scheme_data::{List, OutOfMemory, Stack};
@@ -100,7 +101,7 @@ impl Decoding {
     fn statement(
         &mut self,
         alloc: Global,
-        names: &NameTable,
+        names: &Places,
         funs: &NameTable,
         s: &CStmt,
     ) -> Result<(), OutOfMemory>
@@ -108,7 +109,7 @@ impl Decoding {
     {
         match s {
             CStmt::Assign(x, e) => {
-                let to = Target::Local(place(names, x.as_bytes()));
+                let to = Target::Local(local_place(names, x.as_bytes()));
                 self.put(expression(alloc, names, funs, to, e)?)
             }
             CStmt::Call(c) => self.put(call(alloc, names, funs, Target::Nowhere, c)?),
@@ -133,7 +134,7 @@ impl Decoding {
     pub fn piece(
         &mut self,
         alloc: Global,
-        names: &NameTable,
+        names: &Places,
         funs: &NameTable,
         p: &PieceRef<'_>,
     ) -> Result<(), OutOfMemory>

@@ -5,6 +5,7 @@ ghost use Rattle.name_table.specs.Names.{has_name};
 ghost use Rattle.c_meaning.specs.Execution.{position_of};
 ghost use Rattle.c_machine.specs.Decoded.{variable_names, variables_of, has_distinct, definitions, definition_in, function_names};
 
+use c_check::Places;
 use c_tree::{CFun, CItem, CVar};
 use name_table::NameTable;
 use scheme_data::OutOfMemory;
@@ -20,6 +21,24 @@ pub fn place(names: &NameTable, name: &[u8]) -> usize
     }
 }
 
+/// The place of a parameter or local, and their number where it isn't there.
+pub fn local_place(names: &Places, name: &[u8]) -> usize
+    ensures { result ≡ position_of name.now names.now }
+{
+    match names.position(name) {
+        Some(at) => at,
+        None => names.len(),
+    }
+}
+
+fn add_local(names: &mut Places, name: &[u8]) -> Result<(), OutOfMemory>
+    requires { has_name names.old name.now ≡ false }
+    ensures { OnOk result (names.new ≡ names.old ++ name.now ∷ []) }
+{
+    let _ = names.insert(name)?;
+    Ok(())
+}
+
 fn add(names: &mut NameTable, name: &[u8]) -> Result<(), OutOfMemory>
     requires { has_name names.old name.now ≡ false }
     ensures { OnOk result (names.new ≡ names.old ++ name.now ∷ []) }
@@ -28,22 +47,22 @@ fn add(names: &mut NameTable, name: &[u8]) -> Result<(), OutOfMemory>
     Ok(())
 }
 
-fn add_variables(names: &mut NameTable, vars: &[CVar]) -> Result<(), OutOfMemory>
+fn add_variables(names: &mut Places, vars: &[CVar]) -> Result<(), OutOfMemory>
     requires { are_distinct (names.old ++ variable_names vars.now) ≡ true }
     ensures { OnOk result (names.new ≡ names.old ++ variable_names vars.now) }
 {
     for v in vars {
-        add(names, v.name.as_bytes())?;
+        add_local(names, v.name.as_bytes())?;
     }
     Ok(())
 }
 
 /// The names of a function's parameters and locals.
-pub fn names_in_function(alloc: Global, f: &CFun) -> Result<NameTable, OutOfMemory>
+pub fn names_in_function(alloc: Global, f: &CFun) -> Result<Places, OutOfMemory>
     requires { has_distinct f.now ≡ true }
     ensures { IfOk result (λ names. names ≡ variable_names (variables_of f.now)) }
 {
-    let mut names = NameTable::new(alloc);
+    let mut names = Places::new(alloc);
     add_variables(&mut names, f.params.as_slice())?;
     add_variables(&mut names, f.locals.as_slice())?;
     Ok(names)
