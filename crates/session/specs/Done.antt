@@ -19,7 +19,7 @@ use Rattle.commands.specs.declared.command.Command.{Command}
 use Rattle.session.specs.declared.answer.Effect.{Effect}
 use Rattle.session.specs.declared.answer.Refusal.{Refusal}
 use Rattle.c_meaning.specs.Checked.{IsChecked, IsFirstBreach, breach}
-use Rattle.session.specs.declared.answer.Refusal.TheVariants.{NotBuilt, Syntax, Limit, BadC, MissingModule, MissingName}
+use Rattle.session.specs.declared.answer.Refusal.TheVariants.{NotBuilt, Syntax, Limit, Header, Duplicate, BadRules, BadC, MissingModule, MissingName}
 use Rattle.session.specs.declared.errors.MakeErr.{MakeErr}
 use Rattle.session.specs.declared.errors.MakeErr.TheVariants as make
 use Rattle.session.specs.declared.errors.WorkErr.{WorkErr}
@@ -30,6 +30,9 @@ use Rattle.session.specs.Works.{Held, Gives, Refuses, MayAdd, IsProgramText, Tex
 abbrev pub make_err_of : UnitErr → MakeErr
 make_err_of (unit.Syntax at) = make.Refused (Syntax at)
 make_err_of (unit.Limit kind) = make.Refused (Limit kind)
+make_err_of (unit.Header at) = make.Refused (Header at)
+make_err_of (unit.Duplicate name) = make.Refused (Duplicate name)
+make_err_of (unit.BadRules at) = make.Refused (BadRules at)
 make_err_of unit.NotBuilt = make.Refused NotBuilt
 make_err_of unit.Memory = make.Memory
 

@@ -6,11 +6,11 @@ use Rattle.base_io.specs.declared.end.End.TheVariants.{Ended, Raised, Spent, Fau
 use Rattle.c_meaning.specs.Breaches.{cause_name}
 use Rattle.scheme_data.specs.Decimal.{decimal_text}
 use Rattle.scheme_data.specs.declared.datum.Place.{Place}
-use Rattle.scheme_data.specs.declared.datum.LimitKind.TheVariants.{Bytes as TheBytes, Depth}
+use Rattle.scheme_data.specs.declared.datum.LimitKind.TheVariants.{Bytes as TheBytes, Depth, Expansions, Filled}
 use Rattle.session.specs.declared.answer.Answer.{Answer}
 use Rattle.session.specs.declared.answer.Answer.TheVariants as answer
 use Rattle.session.specs.declared.answer.Refusal.{Refusal}
-use Rattle.session.specs.declared.answer.Refusal.TheVariants.{NotBuilt, Syntax, Limit, NotC, BadC, MissingModule, MissingName}
+use Rattle.session.specs.declared.answer.Refusal.TheVariants.{NotBuilt, Syntax, Limit, Header, Duplicate, BadRules, NotC, BadC, MissingModule, MissingName}
 
 -- The status --------------------------------------------------------------------------------
 
@@ -50,6 +50,11 @@ refusal_words NotBuilt = codes ": refusal 0"
 refusal_words (Syntax at) = codes ": refusal 1 " ++ place_words at
 refusal_words (Limit TheBytes) = codes ": refusal 2 Bytes"
 refusal_words (Limit Depth) = codes ": refusal 2 Depth"
+refusal_words (Limit Expansions) = codes ": refusal 2 Expansions"
+refusal_words (Limit Filled) = codes ": refusal 2 Filled"
+refusal_words (Header at) = codes ": refusal 3 " ++ place_words at
+refusal_words (Duplicate name) = codes ": refusal 4 " ++ name
+refusal_words (BadRules at) = codes ": refusal 6 " ++ place_words at
 refusal_words (NotC at) = codes ": refusal 14 " ++ place_words at
 refusal_words (BadC name cause) = codes ": refusal 15 " ++ name ++ codes " " ++ cause_name cause
 refusal_words (MissingModule n m) = codes ": refusal 17 " ++ decimal_text n ++ codes " " ++ m

@@ -3,8 +3,6 @@ use Rattle.std.specs.Prelude.{◌≡◌, ◌⊎◌, ℕ, List, [], ◌∷◌, �
 use Rattle.std.specs.List.{AllByRecursion}
 use Rattle.scheme_data.specs.Decimal.{decimal_text}
 use Rattle.scheme_data.specs.declared.datum.Place.{Place}
-use Rattle.scheme_read.specs.declared.error.ReadErr.TheVariants as reading
-use Rattle.scheme_read.specs.Answers.{IsFault}
 use Rattle.base_io.specs.Contents.{Bytes}
 use Rattle.base_io.specs.Observation.{Observation}
 use Rattle.base_io.specs.declared.end.End.{End}
@@ -19,6 +17,8 @@ use Rattle.c_meaning.specs.Checked.{IsChecked, IsFirstBreach, breach}
 use Rattle.c_meaning.specs.Runnable.{is_runnable, IsRunnable}
 use Rattle.c_read.specs.Answers.{IsNoText}
 use Rattle.unit_compile.specs.Compilation.{Exported, NotExported, Compiled, NotCompiled}
+use Rattle.unit_compile.specs.Refusals.{IsRefusal}
+use Rattle.unit_compile.specs.declared.error.UnitErr.TheVariants as unit
 use Rattle.linker.specs.declared.linking.LinkErr.TheVariants as linking
 use Rattle.linker.specs.Links.{Linked, NotLinked}
 use Rattle.whole_program.specs.Sources.{IsProgramOf}
@@ -26,7 +26,7 @@ use Rattle.whole_program.specs.Law.{Compilation, sources_of, IsLinkedFrom}
 use Rattle.commands.specs.declared.command.Command.{Command}
 use Rattle.commands.specs.declared.command.Command.TheVariants.{Blank, Iface, Compile, Link, Run}
 use Rattle.session.specs.declared.answer.Refusal.{Refusal}
-use Rattle.session.specs.declared.answer.Refusal.TheVariants.{NotBuilt, Syntax, Limit, NotC, BadC, MissingModule, MissingName}
+use Rattle.session.specs.declared.answer.Refusal.TheVariants.{NotBuilt, Syntax, Limit, Header, Duplicate, BadRules, NotC, BadC, MissingModule, MissingName}
 use Rattle.session.specs.declared.answer.Effect.{Effect}
 use Rattle.session.specs.declared.answer.Effect.TheVariants.{Nothing, Wrote, Ran}
 
@@ -195,8 +195,11 @@ MayAdd command hs added = (added ≡ []) ⊎ ((rest : Bytes) × ((effect : Effec
 -- a source is refused for its fault; where it is read, as not built
 abbrev pub ExportRefuses : Bytes → Refusal → Type 0
 ExportRefuses source NotBuilt = NotExported source
-ExportRefuses source (Syntax at) = IsFault source (reading.Syntax at)
-ExportRefuses source (Limit kind) = (at : Place) × IsFault source (reading.Limit kind at)
+ExportRefuses source (Syntax at) = IsRefusal source (unit.Syntax at)
+ExportRefuses source (Limit kind) = IsRefusal source (unit.Limit kind)
+ExportRefuses source (Header at) = IsRefusal source (unit.Header at)
+ExportRefuses source (Duplicate name) = IsRefusal source (unit.Duplicate name)
+ExportRefuses source (BadRules at) = IsRefusal source (unit.BadRules at)
 ExportRefuses source (NotC at) = ⊥
 ExportRefuses source (BadC name cause) = ⊥
 ExportRefuses source (MissingModule n m) = ⊥
@@ -204,8 +207,11 @@ ExportRefuses source (MissingName n m name) = ⊥
 
 abbrev pub CompileRefuses : Bytes → List Bytes → Refusal → Type 0
 CompileRefuses source texts NotBuilt = NotCompiled source texts
-CompileRefuses source texts (Syntax at) = IsFault source (reading.Syntax at)
-CompileRefuses source texts (Limit kind) = (at : Place) × IsFault source (reading.Limit kind at)
+CompileRefuses source texts (Syntax at) = IsRefusal source (unit.Syntax at)
+CompileRefuses source texts (Limit kind) = IsRefusal source (unit.Limit kind)
+CompileRefuses source texts (Header at) = IsRefusal source (unit.Header at)
+CompileRefuses source texts (Duplicate name) = IsRefusal source (unit.Duplicate name)
+CompileRefuses source texts (BadRules at) = IsRefusal source (unit.BadRules at)
 CompileRefuses source texts (NotC at) = ⊥
 CompileRefuses source texts (BadC name cause) = ⊥
 CompileRefuses source texts (MissingModule n m) = ⊥
@@ -217,6 +223,9 @@ LinkRefuses objects NotBuilt = NotLinked objects linking.NotBuilt
 LinkRefuses objects (Syntax at) = ⊥
 LinkRefuses objects (Limit kind) = ⊥
 LinkRefuses objects (NotC at) = ⊥
+LinkRefuses objects (Header at) = ⊥
+LinkRefuses objects (Duplicate name) = ⊥
+LinkRefuses objects (BadRules at) = ⊥
 LinkRefuses objects (BadC name cause) = ⊥
 LinkRefuses objects (MissingModule n m) = NotLinked objects (linking.MissingModule n m)
 LinkRefuses objects (MissingName n m name) = NotLinked objects (linking.MissingName n m name)
@@ -241,6 +250,9 @@ RunRefuses bytes (NotC at) = IsNoText bytes at
 RunRefuses bytes (BadC name cause) = IsBad bytes name cause
 RunRefuses bytes (Syntax at) = ⊥
 RunRefuses bytes (Limit kind) = ⊥
+RunRefuses bytes (Header at) = ⊥
+RunRefuses bytes (Duplicate name) = ⊥
+RunRefuses bytes (BadRules at) = ⊥
 RunRefuses bytes (MissingModule n m) = ⊥
 RunRefuses bytes (MissingName n m name) = ⊥
 

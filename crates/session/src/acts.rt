@@ -47,6 +47,9 @@ fn refused_source(refused: UnitErr) -> MakeErr
     match refused {
         UnitErr::Syntax(at) => MakeErr::Refused(Refusal::Syntax(at)),
         UnitErr::Limit(kind) => MakeErr::Refused(Refusal::Limit(kind)),
+        UnitErr::Header(at) => MakeErr::Refused(Refusal::Header(at)),
+        UnitErr::Duplicate(name) => MakeErr::Refused(Refusal::Duplicate(name)),
+        UnitErr::BadRules(at) => MakeErr::Refused(Refusal::BadRules(at)),
         UnitErr::NotBuilt => MakeErr::Refused(Refusal::NotBuilt),
         UnitErr::Memory => MakeErr::Memory,
     }

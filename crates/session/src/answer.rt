@@ -16,6 +16,12 @@ pub enum Refusal {
     Syntax(Place),
     /// Its source, or the script, has more than may be.
     Limit(LimitKind),
+    /// Its first datum is no head of a module; the innermost module form, clause or item that isn't right stands here.
+    Header(Place),
+    /// Its head declares this name twice.
+    Duplicate(Text),
+    /// A `define-syntax` at its top level, which stands here, has no rules that could be used.
+    BadRules(Place),
     /// Its program is no C text, and no text could go on here.
     NotC(Place),
     /// Its program breaks a rule of checked C, first in this function or declaration, or by the want of this name, for this cause.

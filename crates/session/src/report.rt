@@ -142,6 +142,14 @@ fn missing_name_text(
     Ok(text)
 }
 
+fn duplicate_text(alloc: Global, number: u64, name: &Text) -> Result<Text, OutOfMemory>
+    ensures { IfOk result (λ text. text ≡ line_words number ++ refusal_words (Refusal.Duplicate name.now)) }
+{
+    let mut text = line_text(alloc, number, b": refusal 4 ")?;
+    text.extend(name.as_bytes())?;
+    Ok(text)
+}
+
 fn refusal_text(alloc: Global, number: u64, refusal: &Refusal) -> Result<Text, OutOfMemory>
     ensures { IfOk result (λ text. text ≡ line_words number ++ refusal_words refusal.now) }
 {
@@ -150,6 +158,13 @@ fn refusal_text(alloc: Global, number: u64, refusal: &Refusal) -> Result<Text, O
         Refusal::Syntax(at) => place_text(alloc, number, b": refusal 1 ", *at),
         Refusal::Limit(LimitKind::Bytes) => line_text(alloc, number, b": refusal 2 Bytes"),
         Refusal::Limit(LimitKind::Depth) => line_text(alloc, number, b": refusal 2 Depth"),
+        Refusal::Limit(LimitKind::Expansions) => {
+            line_text(alloc, number, b": refusal 2 Expansions")
+        }
+        Refusal::Limit(LimitKind::Filled) => line_text(alloc, number, b": refusal 2 Filled"),
+        Refusal::Header(at) => place_text(alloc, number, b": refusal 3 ", *at),
+        Refusal::Duplicate(name) => duplicate_text(alloc, number, name),
+        Refusal::BadRules(at) => place_text(alloc, number, b": refusal 6 ", *at),
         Refusal::NotC(at) => place_text(alloc, number, b": refusal 14 ", *at),
         Refusal::BadC(name, cause) => breach_text(alloc, number, name, *cause),
         Refusal::MissingModule(object, module_name) => {

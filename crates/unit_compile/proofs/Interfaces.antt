@@ -7,7 +7,7 @@ use Rattle.resolver.specs.Elaboration.{AreSpelled}
 use Rattle.unit_compile.specs.Compilation.{AreTexts}
 use Rattle.unit_compile.specs.Parts.{IsOnlyText, AreOnlyTexts, ReadsOne, ReadsEach}
 use Rattle.unit_compile.specs.declared.error.UnitErr.{UnitErr}
-use Rattle.unit_compile.specs.declared.error.UnitErr.TheVariants.{Syntax, Limit, NotBuilt, Memory}
+use Rattle.unit_compile.specs.declared.error.UnitErr.TheVariants.{Syntax, Limit, Header, Duplicate, BadRules, NotBuilt, Memory}
 
 pub texts_of : (texts : List (List ℕ)) (is : List IfaceTree) → AreOnlyTexts texts is → AreTexts texts is
 texts_of [] [] are = tt
@@ -63,5 +63,8 @@ one_refused texts k t read below at same refused is are = go texts k below is ar
 pub first_refused : (texts : List (List ℕ)) (k : ℕ) (t read : List ℕ) (e : UnitErr) → k < length texts → t ≡ get_or texts k t → read ≡ t → ReadsOne read (Err e) → ReadsEach texts (Err e)
 first_refused texts k t read (Syntax at) below is same refused = refused
 first_refused texts k t read (Limit kind) below is same refused = refused
+first_refused texts k t read (Header at) below is same refused = refused
+first_refused texts k t read (Duplicate name) below is same refused = refused
+first_refused texts k t read (BadRules at) below is same refused = refused
 first_refused texts k t read NotBuilt below is same refused = one_refused texts k t read below is same refused
 first_refused texts k t read Memory below is same refused = tt

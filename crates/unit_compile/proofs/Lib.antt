@@ -1,3 +1,4 @@
 pub mod Interfaces
 pub mod Objects
+pub mod Refusals
 pub mod Units

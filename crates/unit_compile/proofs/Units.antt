@@ -11,7 +11,8 @@ use Rattle.resolver.specs.Drafts.{exported}
 use Rattle.resolver.specs.Elaboration.{elaborated}
 use Rattle.object_text.specs.Format.{ObjectTree, ObjectText}
 use Rattle.unit_compile.specs.declared.error.UnitErr.{UnitErr}
-use Rattle.unit_compile.specs.declared.error.UnitErr.TheVariants.{Syntax, Limit, NotBuilt, Memory}
+use Rattle.unit_compile.specs.declared.error.UnitErr.TheVariants.{Syntax, Limit, Header, Duplicate, BadRules, NotBuilt, Memory}
+use Rattle.unit_compile.specs.Refusals.{AreRight}
 use Rattle.unit_compile.specs.Compilation.{IsInterfaceOf, Exported, NotExported, IsModuleOf, IsObjectOf, Compiled, CompilesTo}
 use Rattle.unit_compile.specs.Parts.{AreOnlyTexts, MakesModule, Makes}
 use Rattle.unit_compile.proofs.Interfaces.{texts_of, same_texts}
@@ -39,8 +40,8 @@ is_exported source forms i text read only is spelled are = record {
         let same : Some (iface_tree i) ≡ Some j = exported_once source forms (Some (iface_tree i)) only is j it in
         cc
 
-pub not_exported : (source : List ℕ) (forms : List Datum) → IsSource source forms → IsOnly source forms → None ≡ exported (plain_all forms) → NotExported source
-not_exported source forms read only is = record { forms = forms; read = read; none = other }
+pub not_exported : (source : List ℕ) (forms : List Datum) → IsSource source forms → IsOnly source forms → AreRight forms → None ≡ exported (plain_all forms) → NotExported source
+not_exported source forms read only are_right is = record { forms = forms; read = read; are_right = are_right; none = other }
   where
     other : (j : IfaceTree) → IsInterfaceOf source j → ⊥
     other j it =
@@ -79,14 +80,17 @@ compiled source texts text forms is m o read only are made is_object is_text = r
         let same : Some m ≡ Some t = sym made.is ∙ module_once source texts forms is only are t it in
         cc
 
-pub not_made : (source : List ℕ) (texts : List (List ℕ)) (forms : List Datum) (is : List IfaceTree) (e : UnitErr) → IsSource source forms → IsOnly source forms → AreOnlyTexts texts is
+pub not_made : (source : List ℕ) (texts : List (List ℕ)) (forms : List Datum) (is : List IfaceTree) (e : UnitErr) → IsSource source forms → IsOnly source forms → AreRight forms → AreOnlyTexts texts is
     → Makes is forms (Err e) → CompilesTo source texts (Err e)
-not_made source texts forms is (Syntax at) read only are none = absurd none
-not_made source texts forms is (Limit kind) read only are none = absurd none
-not_made source texts forms is NotBuilt read only are none = record { forms = forms; read = read; none = other }
+not_made source texts forms is (Syntax at) read only are_right are none = absurd none
+not_made source texts forms is (Limit kind) read only are_right are none = absurd none
+not_made source texts forms is (Header at) read only are_right are none = absurd none
+not_made source texts forms is (Duplicate name) read only are_right are none = absurd none
+not_made source texts forms is (BadRules at) read only are_right are none = absurd none
+not_made source texts forms is NotBuilt read only are_right are none = record { forms = forms; read = read; are_right = are_right; none = other }
   where
     other : (m : ModuleTree) → IsModuleOf source texts m → ⊥
     other m it =
         let same : None ≡ Some m = sym none ∙ module_once source texts forms is only are m it in
         absurd (cc)
-not_made source texts forms is Memory read only are none = tt
+not_made source texts forms is Memory read only are_right are none = tt

@@ -3,7 +3,6 @@ use Rattle.std.specs.Prelude.{◌≡◌, ℕ, List, Some, Result, Ok, Err}
 use Rattle.std.specs.List.{AllZip}
 use Rattle.scheme_data.specs.Data.{plain_all}
 use Rattle.scheme_data.specs.declared.datum.Datum.{Datum}
-use Rattle.scheme_data.specs.declared.datum.Place.{Place}
 use Rattle.iface_text.specs.Format.{IfaceTree}
 use Rattle.iface_text.specs.Answers.{IsText}
 use Rattle.core_tree.specs.Tree.{ModuleTree}
@@ -11,12 +10,15 @@ use Rattle.core_tree.specs.WellFormed.{IsWellFormed}
 use Rattle.plan_rules.specs.Translation.{Translated}
 use Rattle.scheme_read.specs.declared.error.ReadErr.{ReadErr}
 use Rattle.scheme_read.specs.declared.error.ReadErr.TheVariants as reading
-use Rattle.scheme_read.specs.Answers.{IsSource, IsFault}
+use Rattle.scheme_read.specs.Answers.{IsSource}
+use Rattle.module_head.specs.declared.error.HeadErr.{HeadErr}
+use Rattle.module_head.specs.declared.error.HeadErr.TheVariants as head
 use Rattle.resolver.specs.Drafts.{exported}
 use Rattle.resolver.specs.Elaboration.{elaborated}
 use Rattle.object_text.specs.Format.{ObjectTree, ObjectText}
 use Rattle.unit_compile.specs.declared.error.UnitErr.{UnitErr}
-use Rattle.unit_compile.specs.declared.error.UnitErr.TheVariants.{Syntax, Limit, NotBuilt, Memory}
+use Rattle.unit_compile.specs.declared.error.UnitErr.TheVariants.{Syntax, Limit, Header, Duplicate, BadRules, NotBuilt, Memory}
+use Rattle.unit_compile.specs.Refusals.{AreRight, IsRefusal}
 
 -- Interfaces --------------------------------------------------------------------------------
 
@@ -33,10 +35,11 @@ pub record Exported (source text : List ℕ) : Type 0 where
   pub only : (i : IfaceTree) → IsInterfaceOf source i → i ≡ interface
   pub is_text : IsText text interface
 
--- the source is read, and has no interface
+-- the source is read, nothing in its data is refused, and it has no interface
 pub record NotExported (source : List ℕ) : Type 0 where
   pub forms : List Datum
   pub read : IsSource source forms
+  pub are_right : AreRight forms
   pub none : (i : IfaceTree) → IsInterfaceOf source i → ⊥
 
 -- Objects -----------------------------------------------------------------------------------
@@ -75,27 +78,34 @@ pub record Compiled (source : List ℕ) (texts : List (List ℕ)) (text : List �
   pub is_text : ObjectText text object
   pub is_object : IsObjectOf module_tree object
 
--- the source is read, and is that of no module with these interface texts
+-- the source is read, nothing in its data is refused, and it is that of no module with these interface texts
 pub record NotCompiled (source : List ℕ) (texts : List (List ℕ)) : Type 0 where
   pub forms : List Datum
   pub read : IsSource source forms
+  pub are_right : AreRight forms
   pub none : (m : ModuleTree) → IsModuleOf source texts m → ⊥
 
 -- Answers -----------------------------------------------------------------------------------
 
--- a source is refused for what it has: a fault, or forms that are not built
+-- a source is refused for what it has, or for forms that are not built
 abbrev pub ExportsAs : List ℕ → Result (List ℕ) UnitErr → Type 0
 ExportsAs source (Ok text) = Exported source text
-ExportsAs source (Err (Syntax at)) = IsFault source (reading.Syntax at)
-ExportsAs source (Err (Limit kind)) = (at : Place) × IsFault source (reading.Limit kind at)
+ExportsAs source (Err (Syntax at)) = IsRefusal source (Syntax at)
+ExportsAs source (Err (Limit kind)) = IsRefusal source (Limit kind)
+ExportsAs source (Err (Header at)) = IsRefusal source (Header at)
+ExportsAs source (Err (Duplicate name)) = IsRefusal source (Duplicate name)
+ExportsAs source (Err (BadRules at)) = IsRefusal source (BadRules at)
 ExportsAs source (Err NotBuilt) = NotExported source
 ExportsAs source (Err Memory) = Unit {0}
 
--- a source with interfaces is refused for a fault, or forms, interfaces or imports that are not built
+-- a source with interfaces is refused for what it has, or for forms, interfaces or imports that are not built
 abbrev pub CompilesTo : List ℕ → List (List ℕ) → Result (List ℕ) UnitErr → Type 0
 CompilesTo source texts (Ok text) = Compiled source texts text
-CompilesTo source texts (Err (Syntax at)) = IsFault source (reading.Syntax at)
-CompilesTo source texts (Err (Limit kind)) = (at : Place) × IsFault source (reading.Limit kind at)
+CompilesTo source texts (Err (Syntax at)) = IsRefusal source (Syntax at)
+CompilesTo source texts (Err (Limit kind)) = IsRefusal source (Limit kind)
+CompilesTo source texts (Err (Header at)) = IsRefusal source (Header at)
+CompilesTo source texts (Err (Duplicate name)) = IsRefusal source (Duplicate name)
+CompilesTo source texts (Err (BadRules at)) = IsRefusal source (BadRules at)
 CompilesTo source texts (Err NotBuilt) = NotCompiled source texts
 CompilesTo source texts (Err Memory) = Unit {0}
 
@@ -105,10 +115,8 @@ refusal_for (reading.Syntax at) = Syntax at
 refusal_for (reading.Limit kind at) = Limit kind
 refusal_for reading.Memory = Memory
 
--- the answer to a source with this fault, unless memory runs out
-abbrev pub RefusesFor : ReadErr → Result (List ℕ) UnitErr → Type 0
-RefusesFor fault (Ok text) = ⊥
-RefusesFor fault (Err (Syntax at)) = Syntax at ≡ refusal_for fault
-RefusesFor fault (Err (Limit kind)) = Limit kind ≡ refusal_for fault
-RefusesFor fault (Err NotBuilt) = ⊥
-RefusesFor fault (Err Memory) = Unit {0}
+-- how a source with this breach of its head is refused
+abbrev pub refusal_of_head : HeadErr → UnitErr
+refusal_of_head (head.Header at) = Header at
+refusal_of_head (head.Duplicate name) = Duplicate name
+refusal_of_head head.Memory = Memory

@@ -1,2 +1,3 @@
 pub mod Compilation
 pub mod Parts
+pub mod Refusals

@@ -12,7 +12,7 @@ use Rattle.core_tree.specs.WellFormed.{IsWellFormed}
 use Rattle.resolver.specs.Elaboration.{elaborated}
 use Rattle.unit_compile.specs.Compilation.{AreTexts}
 use Rattle.unit_compile.specs.declared.error.UnitErr.{UnitErr}
-use Rattle.unit_compile.specs.declared.error.UnitErr.TheVariants.{Syntax, Limit, NotBuilt, Memory}
+use Rattle.unit_compile.specs.declared.error.UnitErr.TheVariants.{Syntax, Limit, Header, Duplicate, BadRules, NotBuilt, Memory}
 
 -- Interfaces --------------------------------------------------------------------------------
 
@@ -28,6 +28,9 @@ abbrev pub ReadsOne : List ℕ → Result Iface UnitErr → Type 0
 ReadsOne text (Ok i) = IsOnlyText text (iface_tree i)
 ReadsOne text (Err (Syntax at)) = ⊥
 ReadsOne text (Err (Limit kind)) = ⊥
+ReadsOne text (Err (Header at)) = ⊥
+ReadsOne text (Err (Duplicate name)) = ⊥
+ReadsOne text (Err (BadRules at)) = ⊥
 ReadsOne text (Err NotBuilt) = (i : IfaceTree) → IsText text i → ⊥
 ReadsOne text (Err Memory) = Unit {0}
 
@@ -35,6 +38,9 @@ abbrev pub ReadsEach : List (List ℕ) → Result (List Iface) UnitErr → Type 
 ReadsEach texts (Ok is) = AreOnlyTexts texts (map iface_tree is)
 ReadsEach texts (Err (Syntax at)) = ⊥
 ReadsEach texts (Err (Limit kind)) = ⊥
+ReadsEach texts (Err (Header at)) = ⊥
+ReadsEach texts (Err (Duplicate name)) = ⊥
+ReadsEach texts (Err (BadRules at)) = ⊥
 ReadsEach texts (Err NotBuilt) = (is : List IfaceTree) → AreTexts texts is → ⊥
 ReadsEach texts (Err Memory) = Unit {0}
 
@@ -49,5 +55,8 @@ abbrev pub Makes : List IfaceTree → List Datum → Result Module UnitErr → T
 Makes interfaces forms (Ok m) = MakesModule interfaces forms (module_tree m)
 Makes interfaces forms (Err (Syntax at)) = ⊥
 Makes interfaces forms (Err (Limit kind)) = ⊥
+Makes interfaces forms (Err (Header at)) = ⊥
+Makes interfaces forms (Err (Duplicate name)) = ⊥
+Makes interfaces forms (Err (BadRules at)) = ⊥
 Makes interfaces forms (Err NotBuilt) = elaborated interfaces (plain_all forms) ≡ None
 Makes interfaces forms (Err Memory) = Unit {0}

@@ -1,32 +1,32 @@
 ghost use Rattle.std.specs.Prelude.{IfOk, map};
 ghost use Rattle.scheme_data.specs.Data.{AreProper, plain_all};
-ghost use Rattle.scheme_read.specs.declared.error.ReadErr.{ReadErr};
-ghost use Rattle.scheme_read.specs.Answers.{IsFault};
 ghost use Rattle.iface_text.specs.Format.{iface_tree};
 ghost use Rattle.core_tree.specs.Tree.{module_tree};
 ghost use Rattle.core_tree.specs.WellFormed.{IsWellFormed};
 ghost use Rattle.resolver.specs.Elaboration.{AreSpelled};
 ghost use Rattle.object_text.specs.Format.{object_tree, CanBeWritten};
-ghost use Rattle.unit_compile.specs.Compilation.{CompilesTo, RefusesFor, IsObjectOf};
+ghost use Rattle.unit_compile.specs.Compilation.{CompilesTo, IsObjectOf};
+ghost use Rattle.unit_compile.specs.Refusals.{IsRefusal, Refuses};
+ghost use Rattle.unit_compile.specs.declared.error.UnitErr.{UnitErr as AnyErr};
 ghost use Rattle.unit_compile.specs.Parts.{ReadsOne, ReadsEach, Makes};
 
 use crate::error::UnitErr;
+use crate::forms::read_forms;
 use code_gen::generate_unit;
 use core_tree::Module;
 use iface_text::{Iface, IfaceErr, read_iface};
 use object_text::{Object, write_object};
 use resolver::resolve_module;
 use scheme_data::{Datum, List, OutOfMemory, Text, TextList};
-use scheme_read::read_all;
 use std::alloc::Global;
 
 /// The text of the object of a source, compiled with these interface texts; of two interfaces of one module the first counts.
 pub fn compile_unit(alloc: Global, source: &[u8], interfaces: &TextList) -> Result<Text, UnitErr>
     ensures value { CompilesTo source.now interfaces.now result }
-    // What is at fault is refused for that, unless memory runs out.
-    ensures refused { (fault : ReadErr) → IsFault source.now fault → RefusesFor fault result }
+    // What a source has that is refused is refused for that, unless memory runs out.
+    ensures refused { (refusal : AnyErr) → IsRefusal source.now refusal → Refuses refusal result }
 {
-    let forms = read_all(alloc, source)?;
+    let forms = read_forms(alloc, source)?;
     let interfaces = interfaces_of(alloc, interfaces.as_slice())?;
     let module = module_of(alloc, forms.as_slice(), interfaces.as_slice())?;
     let object = object_of(alloc, module)?;

@@ -4,6 +4,7 @@
 mod compile;
 mod error;
 mod export;
+mod forms;
 
 pub use compile::compile_unit;
 pub use error::UnitErr;

@@ -8,7 +8,7 @@ use Rattle.scheme_data.specs.Data.{Plains}
 use Rattle.name_table.specs.Names.{has_name}
 use Rattle.iface_text.specs.declared.interface.Row.{Row}
 use Rattle.iface_text.specs.Format.{IfaceTree}
-use Rattle.module_head.specs.Heads.{ImportTree, is_word}
+use Rattle.resolver.specs.BuiltHeads.{ImportTree, is_word}
 use Rattle.core_tree.specs.declared.tree.Use.{Use}
 use Rattle.core_tree.specs.declared.tree.Use.TheVariants.{From, Need}
 use Rattle.core_tree.specs.Tree.{ModuleTree}

@@ -17,7 +17,7 @@ returns-in_err-module-clause-value c =
     let is = c.in_ok-interfaces.interfaces in
     let are = subst (λ (texts : List (List ℕ)). AreOnlyTexts texts (map iface_tree is)) c.as_slice.ensures c.in_ok-interfaces.ensures in
     let made = same_makes c.as_slice-3.result.now is c.as_slice-2.result.now c.in_ok-forms.forms (Err c.in_err-module.field-0.0) c.as_slice-3.ensures c.as_slice-2.ensures c.in_err-module.ensures in
-    rw (p.1, p.2) (not_made c.args.source.now c.args.interfaces.now c.in_ok-forms.forms (map iface_tree is) c.in_err-module.field-0.0 c.in_ok-forms.ensures.answer c.in_ok-forms.ensures.given are made)
+    rw (p.1, p.2) (not_made c.args.source.now c.args.interfaces.now c.in_ok-forms.forms (map iface_tree is) c.in_err-module.field-0.0 c.in_ok-forms.ensures.value.read c.in_ok-forms.ensures.value.read_once c.in_ok-forms.ensures.value.are_right are made)
 
 pub returns-clause-value : goal.returns-clause-value
 returns-clause-value c =
@@ -25,4 +25,4 @@ returns-clause-value c =
     let are = subst (λ (texts : List (List ℕ)). AreOnlyTexts texts (map iface_tree is)) c.as_slice.ensures c.in_ok-interfaces.ensures in
     let made = same_makes c.as_slice-3.result.now is c.as_slice-2.result.now c.in_ok-forms.forms (Ok c.in_ok-module.module) c.as_slice-3.ensures c.as_slice-2.ensures c.in_ok-module.ensures in
     compiled c.args.source.now c.args.interfaces.now c.in_ok-write_object.field-0 c.in_ok-forms.forms (map iface_tree is) (module_tree c.in_ok-module.module) (object_tree c.in_ok-object.object)
-    c.in_ok-forms.ensures.answer c.in_ok-forms.ensures.given are made c.in_ok-object.ensures.is c.in_ok-write_object.ensures
+    c.in_ok-forms.ensures.value.read c.in_ok-forms.ensures.value.read_once are made c.in_ok-object.ensures.is c.in_ok-write_object.ensures
