@@ -1,0 +1,10 @@
+pub mod Texts
+pub mod Runs
+pub mod Worked
+pub mod Limits
+pub mod Measures
+pub mod Views
+pub mod Distinct
+pub mod Trees
+pub mod Rows
+pub mod Sides

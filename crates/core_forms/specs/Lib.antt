@@ -1,0 +1,10 @@
+pub mod Scope
+pub mod Names
+pub mod Mid
+pub mod Table
+pub mod Bodies
+pub mod Rewriting
+pub mod Modules
+pub mod Code
+pub mod Working
+pub mod Shapes

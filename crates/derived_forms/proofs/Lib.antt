@@ -1,0 +1,5 @@
+pub mod ClauseSteps
+pub mod RowSteps
+pub mod LoopForms
+pub mod NamedLets
+pub mod Repeats

@@ -1,0 +1,6 @@
+pub mod MacroTables
+pub mod MacroUses
+pub mod Turns
+pub mod Decisions
+pub mod Definings
+pub mod Values
