@@ -1,9 +1,6 @@
-pub mod Scope
-pub mod Names
-pub mod Mid
-pub mod Table
-pub mod Bodies
-pub mod Rewriting
-pub mod Modules
-pub mod BadRules
-pub mod Written
+pub mod Answers
+pub mod Walks
+pub mod Tops
+pub mod TopWalks
+pub mod Groups
+pub mod Around

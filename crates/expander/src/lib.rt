@@ -1,12 +1,11 @@
-//! The expander: from the forms of a module to the forms of the core grammar. So far it is defined whole, and finds the macros with bad rules.
+//! The expander: from the forms of a module to the forms of the core grammar.
 #![tactic(auto)]
 
-mod core_form;
-mod counting;
-mod error;
-mod words;
-mod written;
+mod expander;
+mod grouping;
+mod module;
+mod scanning;
+mod walking;
 
-pub use core_form::{Binder, Core, CoreExpr, CoreTop};
-pub use error::ExpandErr;
-pub use written::bad_rules;
+pub use core_forms::{Binder, Core, CoreExpr, CoreTop, ExpandErr};
+pub use module::expand_module;

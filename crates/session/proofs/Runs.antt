@@ -10,7 +10,7 @@ use Rattle.c_meaning.specs.Program.{cm}
 use Rattle.c_meaning.specs.Checked.{IsChecked}
 use Rattle.c_meaning.specs.Runnable.{is_runnable, IsRunnable}
 use Rattle.c_tree.specs.Functions.{items_of}
-use Rattle.session.specs.declared.answer.Refusal.TheVariants.{NotBuilt, Syntax, Limit, Header, Duplicate, BadRules, NotC, BadC, MissingModule, MissingName}
+use Rattle.session.specs.declared.answer.Refusal.TheVariants.{NotBuilt, Syntax, Limit, Header, Duplicate, BadRules, NoRule, Form, NotC, BadC, MissingModule, MissingName}
 use Rattle.c_machine.specs.Runs.{Ran}
 use Rattle.base_io.specs.declared.end.RunErr.TheVariants as run
 use Rattle.session.specs.declared.errors.MakeErr.{MakeErr}
@@ -88,6 +88,8 @@ not_checked bytes p e r tree told is = subst (λ (x : Result CProgram MakeErr). 
     go (make.Refused (Header at)) told = absurd told
     go (make.Refused (Duplicate name)) told = absurd told
     go (make.Refused (BadRules at)) told = absurd told
+    go (make.Refused (NoRule at)) told = absurd told
+    go (make.Refused (Form at)) told = absurd told
     go (make.Refused (NotC at)) told = absurd told
     go (make.Refused (MissingModule n m)) told = absurd told
     go (make.Refused (MissingName n m name)) told = absurd told

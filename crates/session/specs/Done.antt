@@ -19,7 +19,7 @@ use Rattle.commands.specs.declared.command.Command.{Command}
 use Rattle.session.specs.declared.answer.Effect.{Effect}
 use Rattle.session.specs.declared.answer.Refusal.{Refusal}
 use Rattle.c_meaning.specs.Checked.{IsChecked, IsFirstBreach, breach}
-use Rattle.session.specs.declared.answer.Refusal.TheVariants.{NotBuilt, Syntax, Limit, Header, Duplicate, BadRules, BadC, MissingModule, MissingName}
+use Rattle.session.specs.declared.answer.Refusal.TheVariants.{NotBuilt, Syntax, Limit, Header, Duplicate, BadRules, NoRule, Form, BadC, MissingModule, MissingName}
 use Rattle.session.specs.declared.errors.MakeErr.{MakeErr}
 use Rattle.session.specs.declared.errors.MakeErr.TheVariants as make
 use Rattle.session.specs.declared.errors.WorkErr.{WorkErr}
@@ -33,6 +33,8 @@ make_err_of (unit.Limit kind) = make.Refused (Limit kind)
 make_err_of (unit.Header at) = make.Refused (Header at)
 make_err_of (unit.Duplicate name) = make.Refused (Duplicate name)
 make_err_of (unit.BadRules at) = make.Refused (BadRules at)
+make_err_of (unit.NoRule at) = make.Refused (NoRule at)
+make_err_of (unit.Form at) = make.Refused (Form at)
 make_err_of unit.NotBuilt = make.Refused NotBuilt
 make_err_of unit.Memory = make.Memory
 

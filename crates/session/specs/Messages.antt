@@ -10,7 +10,7 @@ use Rattle.scheme_data.specs.declared.datum.LimitKind.TheVariants.{Bytes as TheB
 use Rattle.session.specs.declared.answer.Answer.{Answer}
 use Rattle.session.specs.declared.answer.Answer.TheVariants as answer
 use Rattle.session.specs.declared.answer.Refusal.{Refusal}
-use Rattle.session.specs.declared.answer.Refusal.TheVariants.{NotBuilt, Syntax, Limit, Header, Duplicate, BadRules, NotC, BadC, MissingModule, MissingName}
+use Rattle.session.specs.declared.answer.Refusal.TheVariants.{NotBuilt, Syntax, Limit, Header, Duplicate, BadRules, NoRule, Form, NotC, BadC, MissingModule, MissingName}
 
 -- The status --------------------------------------------------------------------------------
 
@@ -55,6 +55,8 @@ refusal_words (Limit Filled) = codes ": refusal 2 Filled"
 refusal_words (Header at) = codes ": refusal 3 " ++ place_words at
 refusal_words (Duplicate name) = codes ": refusal 4 " ++ name
 refusal_words (BadRules at) = codes ": refusal 6 " ++ place_words at
+refusal_words (NoRule at) = codes ": refusal 7 " ++ place_words at
+refusal_words (Form at) = codes ": refusal 8 " ++ place_words at
 refusal_words (NotC at) = codes ": refusal 14 " ++ place_words at
 refusal_words (BadC name cause) = codes ": refusal 15 " ++ name ++ codes " " ++ cause_name cause
 refusal_words (MissingModule n m) = codes ": refusal 17 " ++ decimal_text n ++ codes " " ++ m

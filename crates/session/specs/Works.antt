@@ -26,7 +26,7 @@ use Rattle.whole_program.specs.Law.{Compilation, sources_of, IsLinkedFrom}
 use Rattle.commands.specs.declared.command.Command.{Command}
 use Rattle.commands.specs.declared.command.Command.TheVariants.{Blank, Iface, Compile, Link, Run}
 use Rattle.session.specs.declared.answer.Refusal.{Refusal}
-use Rattle.session.specs.declared.answer.Refusal.TheVariants.{NotBuilt, Syntax, Limit, Header, Duplicate, BadRules, NotC, BadC, MissingModule, MissingName}
+use Rattle.session.specs.declared.answer.Refusal.TheVariants.{NotBuilt, Syntax, Limit, Header, Duplicate, BadRules, NoRule, Form, NotC, BadC, MissingModule, MissingName}
 use Rattle.session.specs.declared.answer.Effect.{Effect}
 use Rattle.session.specs.declared.answer.Effect.TheVariants.{Nothing, Wrote, Ran}
 
@@ -200,6 +200,8 @@ ExportRefuses source (Limit kind) = IsRefusal source (unit.Limit kind)
 ExportRefuses source (Header at) = IsRefusal source (unit.Header at)
 ExportRefuses source (Duplicate name) = IsRefusal source (unit.Duplicate name)
 ExportRefuses source (BadRules at) = IsRefusal source (unit.BadRules at)
+ExportRefuses source (NoRule at) = IsRefusal source (unit.NoRule at)
+ExportRefuses source (Form at) = IsRefusal source (unit.Form at)
 ExportRefuses source (NotC at) = ⊥
 ExportRefuses source (BadC name cause) = ⊥
 ExportRefuses source (MissingModule n m) = ⊥
@@ -212,6 +214,8 @@ CompileRefuses source texts (Limit kind) = IsRefusal source (unit.Limit kind)
 CompileRefuses source texts (Header at) = IsRefusal source (unit.Header at)
 CompileRefuses source texts (Duplicate name) = IsRefusal source (unit.Duplicate name)
 CompileRefuses source texts (BadRules at) = IsRefusal source (unit.BadRules at)
+CompileRefuses source texts (NoRule at) = IsRefusal source (unit.NoRule at)
+CompileRefuses source texts (Form at) = IsRefusal source (unit.Form at)
 CompileRefuses source texts (NotC at) = ⊥
 CompileRefuses source texts (BadC name cause) = ⊥
 CompileRefuses source texts (MissingModule n m) = ⊥
@@ -226,6 +230,8 @@ LinkRefuses objects (NotC at) = ⊥
 LinkRefuses objects (Header at) = ⊥
 LinkRefuses objects (Duplicate name) = ⊥
 LinkRefuses objects (BadRules at) = ⊥
+LinkRefuses objects (NoRule at) = ⊥
+LinkRefuses objects (Form at) = ⊥
 LinkRefuses objects (BadC name cause) = ⊥
 LinkRefuses objects (MissingModule n m) = NotLinked objects (linking.MissingModule n m)
 LinkRefuses objects (MissingName n m name) = NotLinked objects (linking.MissingName n m name)
@@ -253,6 +259,8 @@ RunRefuses bytes (Limit kind) = ⊥
 RunRefuses bytes (Header at) = ⊥
 RunRefuses bytes (Duplicate name) = ⊥
 RunRefuses bytes (BadRules at) = ⊥
+RunRefuses bytes (NoRule at) = ⊥
+RunRefuses bytes (Form at) = ⊥
 RunRefuses bytes (MissingModule n m) = ⊥
 RunRefuses bytes (MissingName n m name) = ⊥
 

@@ -50,6 +50,8 @@ fn refused_source(refused: UnitErr) -> MakeErr
         UnitErr::Header(at) => MakeErr::Refused(Refusal::Header(at)),
         UnitErr::Duplicate(name) => MakeErr::Refused(Refusal::Duplicate(name)),
         UnitErr::BadRules(at) => MakeErr::Refused(Refusal::BadRules(at)),
+        UnitErr::NoRule(at) => MakeErr::Refused(Refusal::NoRule(at)),
+        UnitErr::Form(at) => MakeErr::Refused(Refusal::Form(at)),
         UnitErr::NotBuilt => MakeErr::Refused(Refusal::NotBuilt),
         UnitErr::Memory => MakeErr::Memory,
     }

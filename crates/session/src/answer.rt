@@ -22,6 +22,10 @@ pub enum Refusal {
     Duplicate(Text),
     /// A `define-syntax` at its top level, which stands here, has no rules that could be used.
     BadRules(Place),
+    /// A use of a macro that stands here matches none of its rules.
+    NoRule(Place),
+    /// A form that stands here is neither of the core grammar nor a derived one.
+    Form(Place),
     /// Its program is no C text, and no text could go on here.
     NotC(Place),
     /// Its program breaks a rule of checked C, first in this function or declaration, or by the want of this name, for this cause.

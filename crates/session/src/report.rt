@@ -165,6 +165,8 @@ fn refusal_text(alloc: Global, number: u64, refusal: &Refusal) -> Result<Text, O
         Refusal::Header(at) => place_text(alloc, number, b": refusal 3 ", *at),
         Refusal::Duplicate(name) => duplicate_text(alloc, number, name),
         Refusal::BadRules(at) => place_text(alloc, number, b": refusal 6 ", *at),
+        Refusal::NoRule(at) => place_text(alloc, number, b": refusal 7 ", *at),
+        Refusal::Form(at) => place_text(alloc, number, b": refusal 8 ", *at),
         Refusal::NotC(at) => place_text(alloc, number, b": refusal 14 ", *at),
         Refusal::BadC(name, cause) => breach_text(alloc, number, name, *cause),
         Refusal::MissingModule(object, module_name) => {

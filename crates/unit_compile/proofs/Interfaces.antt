@@ -7,7 +7,7 @@ use Rattle.resolver.specs.Elaboration.{AreSpelled}
 use Rattle.unit_compile.specs.Compilation.{AreTexts}
 use Rattle.unit_compile.specs.Parts.{IsOnlyText, AreOnlyTexts, ReadsOne, ReadsEach}
 use Rattle.unit_compile.specs.declared.error.UnitErr.{UnitErr}
-use Rattle.unit_compile.specs.declared.error.UnitErr.TheVariants.{Syntax, Limit, Header, Duplicate, BadRules, NotBuilt, Memory}
+use Rattle.unit_compile.specs.declared.error.UnitErr.TheVariants.{Syntax, Limit, Header, Duplicate, BadRules, NoRule, Form, NotBuilt, Memory}
 
 pub texts_of : (texts : List (List ℕ)) (is : List IfaceTree) → AreOnlyTexts texts is → AreTexts texts is
 texts_of [] [] are = tt
@@ -66,5 +66,7 @@ first_refused texts k t read (Limit kind) below is same refused = refused
 first_refused texts k t read (Header at) below is same refused = refused
 first_refused texts k t read (Duplicate name) below is same refused = refused
 first_refused texts k t read (BadRules at) below is same refused = refused
+first_refused texts k t read (NoRule at) below is same refused = refused
+first_refused texts k t read (Form at) below is same refused = refused
 first_refused texts k t read NotBuilt below is same refused = one_refused texts k t read below is same refused
 first_refused texts k t read Memory below is same refused = tt

@@ -11,7 +11,7 @@ use Rattle.resolver.specs.Drafts.{exported}
 use Rattle.resolver.specs.Elaboration.{elaborated}
 use Rattle.object_text.specs.Format.{ObjectTree, ObjectText}
 use Rattle.unit_compile.specs.declared.error.UnitErr.{UnitErr}
-use Rattle.unit_compile.specs.declared.error.UnitErr.TheVariants.{Syntax, Limit, Header, Duplicate, BadRules, NotBuilt, Memory}
+use Rattle.unit_compile.specs.declared.error.UnitErr.TheVariants.{Syntax, Limit, Header, Duplicate, BadRules, NoRule, Form, NotBuilt, Memory}
 use Rattle.unit_compile.specs.Refusals.{AreRight}
 use Rattle.unit_compile.specs.Compilation.{IsInterfaceOf, Exported, NotExported, IsModuleOf, IsObjectOf, Compiled, CompilesTo}
 use Rattle.unit_compile.specs.Parts.{AreOnlyTexts, MakesModule, Makes}
@@ -87,6 +87,8 @@ not_made source texts forms is (Limit kind) read only are_right are none = absur
 not_made source texts forms is (Header at) read only are_right are none = absurd none
 not_made source texts forms is (Duplicate name) read only are_right are none = absurd none
 not_made source texts forms is (BadRules at) read only are_right are none = absurd none
+not_made source texts forms is (NoRule at) read only are_right are none = absurd none
+not_made source texts forms is (Form at) read only are_right are none = absurd none
 not_made source texts forms is NotBuilt read only are_right are none = record { forms = forms; read = read; are_right = are_right; none = other }
   where
     other : (m : ModuleTree) → IsModuleOf source texts m → ⊥

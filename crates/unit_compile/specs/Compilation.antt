@@ -13,11 +13,13 @@ use Rattle.scheme_read.specs.declared.error.ReadErr.TheVariants as reading
 use Rattle.scheme_read.specs.Answers.{IsSource}
 use Rattle.module_head.specs.declared.error.HeadErr.{HeadErr}
 use Rattle.module_head.specs.declared.error.HeadErr.TheVariants as head
+use Rattle.core_forms.specs.declared.error.ExpandErr.{ExpandErr}
+use Rattle.core_forms.specs.declared.error.ExpandErr.TheVariants as expansion
 use Rattle.resolver.specs.Drafts.{exported}
 use Rattle.resolver.specs.Elaboration.{elaborated}
 use Rattle.object_text.specs.Format.{ObjectTree, ObjectText}
 use Rattle.unit_compile.specs.declared.error.UnitErr.{UnitErr}
-use Rattle.unit_compile.specs.declared.error.UnitErr.TheVariants.{Syntax, Limit, Header, Duplicate, BadRules, NotBuilt, Memory}
+use Rattle.unit_compile.specs.declared.error.UnitErr.TheVariants.{Syntax, Limit, Header, Duplicate, BadRules, NoRule, Form, NotBuilt, Memory}
 use Rattle.unit_compile.specs.Refusals.{AreRight, IsRefusal}
 
 -- Interfaces --------------------------------------------------------------------------------
@@ -95,6 +97,8 @@ ExportsAs source (Err (Limit kind)) = IsRefusal source (Limit kind)
 ExportsAs source (Err (Header at)) = IsRefusal source (Header at)
 ExportsAs source (Err (Duplicate name)) = IsRefusal source (Duplicate name)
 ExportsAs source (Err (BadRules at)) = IsRefusal source (BadRules at)
+ExportsAs source (Err (NoRule at)) = IsRefusal source (NoRule at)
+ExportsAs source (Err (Form at)) = IsRefusal source (Form at)
 ExportsAs source (Err NotBuilt) = NotExported source
 ExportsAs source (Err Memory) = Unit {0}
 
@@ -106,6 +110,8 @@ CompilesTo source texts (Err (Limit kind)) = IsRefusal source (Limit kind)
 CompilesTo source texts (Err (Header at)) = IsRefusal source (Header at)
 CompilesTo source texts (Err (Duplicate name)) = IsRefusal source (Duplicate name)
 CompilesTo source texts (Err (BadRules at)) = IsRefusal source (BadRules at)
+CompilesTo source texts (Err (NoRule at)) = IsRefusal source (NoRule at)
+CompilesTo source texts (Err (Form at)) = IsRefusal source (Form at)
 CompilesTo source texts (Err NotBuilt) = NotCompiled source texts
 CompilesTo source texts (Err Memory) = Unit {0}
 
@@ -120,3 +126,11 @@ abbrev pub refusal_of_head : HeadErr → UnitErr
 refusal_of_head (head.Header at) = Header at
 refusal_of_head (head.Duplicate name) = Duplicate name
 refusal_of_head head.Memory = Memory
+
+-- how a source is refused whose expansion stops so
+abbrev pub refusal_of_expansion : ExpandErr → UnitErr
+refusal_of_expansion (expansion.BadRules at) = BadRules at
+refusal_of_expansion (expansion.NoRule at) = NoRule at
+refusal_of_expansion (expansion.Form at) = Form at
+refusal_of_expansion (expansion.Limit kind) = Limit kind
+refusal_of_expansion expansion.Memory = Memory

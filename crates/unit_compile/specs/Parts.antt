@@ -12,7 +12,7 @@ use Rattle.core_tree.specs.WellFormed.{IsWellFormed}
 use Rattle.resolver.specs.Elaboration.{elaborated}
 use Rattle.unit_compile.specs.Compilation.{AreTexts}
 use Rattle.unit_compile.specs.declared.error.UnitErr.{UnitErr}
-use Rattle.unit_compile.specs.declared.error.UnitErr.TheVariants.{Syntax, Limit, Header, Duplicate, BadRules, NotBuilt, Memory}
+use Rattle.unit_compile.specs.declared.error.UnitErr.TheVariants.{Syntax, Limit, Header, Duplicate, BadRules, NoRule, Form, NotBuilt, Memory}
 
 -- Interfaces --------------------------------------------------------------------------------
 
@@ -31,6 +31,8 @@ ReadsOne text (Err (Limit kind)) = ⊥
 ReadsOne text (Err (Header at)) = ⊥
 ReadsOne text (Err (Duplicate name)) = ⊥
 ReadsOne text (Err (BadRules at)) = ⊥
+ReadsOne text (Err (NoRule at)) = ⊥
+ReadsOne text (Err (Form at)) = ⊥
 ReadsOne text (Err NotBuilt) = (i : IfaceTree) → IsText text i → ⊥
 ReadsOne text (Err Memory) = Unit {0}
 
@@ -41,6 +43,8 @@ ReadsEach texts (Err (Limit kind)) = ⊥
 ReadsEach texts (Err (Header at)) = ⊥
 ReadsEach texts (Err (Duplicate name)) = ⊥
 ReadsEach texts (Err (BadRules at)) = ⊥
+ReadsEach texts (Err (NoRule at)) = ⊥
+ReadsEach texts (Err (Form at)) = ⊥
 ReadsEach texts (Err NotBuilt) = (is : List IfaceTree) → AreTexts texts is → ⊥
 ReadsEach texts (Err Memory) = Unit {0}
 
@@ -58,5 +62,7 @@ Makes interfaces forms (Err (Limit kind)) = ⊥
 Makes interfaces forms (Err (Header at)) = ⊥
 Makes interfaces forms (Err (Duplicate name)) = ⊥
 Makes interfaces forms (Err (BadRules at)) = ⊥
+Makes interfaces forms (Err (NoRule at)) = ⊥
+Makes interfaces forms (Err (Form at)) = ⊥
 Makes interfaces forms (Err NotBuilt) = elaborated interfaces (plain_all forms) ≡ None
 Makes interfaces forms (Err Memory) = Unit {0}

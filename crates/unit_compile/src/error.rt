@@ -1,3 +1,4 @@
+use expander::ExpandErr;
 use module_head::HeadErr;
 use scheme_data::{LimitKind, OutOfMemory, Place, Text};
 use scheme_read::ReadErr;
@@ -7,7 +8,8 @@ use scheme_read::ReadErr;
 pub enum UnitErr {
     /// No data are spelled so: at the first token that no data could have there, or at the end of a source that isn't whole.
     Syntax(Place),
-    /// It has more bytes, or data in each other, than may be.
+    /// It has more bytes, or data in each other, than may be; or its head is right, and so are the rules of its macros, and expanding it
+    /// takes more uses of macros, more data made by these, or more lists in each other than may be.
     Limit(LimitKind),
     /// It is read, and its first datum is no head of a module: at the innermost module form, clause or item that isn't right.
     Header(Place),
@@ -15,6 +17,10 @@ pub enum UnitErr {
     Duplicate(Text),
     /// Its head is right, and a `define-syntax` at its top level, which stands here, has no rules that could be used.
     BadRules(Place),
+    /// Its head is right, and so are the rules of its macros, and a use of a macro that stands here matches none of them.
+    NoRule(Place),
+    /// Likewise, and a form that stands here is neither of the core grammar nor a derived one.
+    Form(Place),
     /// None of these comes, and it isn't by the forms that are built; or an interface with which it is compiled isn't one, or lacks a name that it imports.
     NotBuilt,
     /// Memory was wanted and not given.
@@ -58,6 +64,23 @@ impl From<HeadErr> for UnitErr {
             HeadErr::Header(at) => UnitErr::Header(at),
             HeadErr::Duplicate(name) => UnitErr::Duplicate(name),
             HeadErr::Memory => UnitErr::Memory,
+        }
+    }
+}
+
+impl From<ExpandErr> for UnitErr {
+    ghost use Rattle.std.specs.Prelude.{◌≡◌};
+    ghost use Rattle.unit_compile.specs.Compilation.{refusal_of_expansion};
+
+    ghost from_gives = { λ breach e. e ≡ refusal_of_expansion breach };
+
+    fn from(breach: ExpandErr) -> Self {
+        match breach {
+            ExpandErr::BadRules(at) => UnitErr::BadRules(at),
+            ExpandErr::NoRule(at) => UnitErr::NoRule(at),
+            ExpandErr::Form(at) => UnitErr::Form(at),
+            ExpandErr::Limit(kind) => UnitErr::Limit(kind),
+            ExpandErr::Memory => UnitErr::Memory,
         }
     }
 }
