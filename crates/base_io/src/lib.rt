@@ -14,6 +14,3 @@ pub use files::{FileErr, Files, Found};
 pub use mem_files::MemFiles;
 pub use mem_stream::{MemSink, MemSource};
 pub use stream::{Failed, Sink, Source, put_all};
-
-#[cfg(test)]
-mod tests;

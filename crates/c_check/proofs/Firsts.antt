@@ -45,11 +45,11 @@ pair_found p q s r a b c is here behind some =
     by None (Some x) h = h
     by (Some x) u h = h
 
--- of the last of four, where nothing is in front of it
-pub late_found : (p q s t : List BadCause) (r a b u w : Option BadCause) (c : BadCause) → r ≡ option_or a b → a ≡ first p → b ≡ first q → r ≡ None → u ≡ first s → u ≡ None → w ≡ first t → w ≡ Some c → first (p ++ (q ++ (s ++ t))) ≡ Some c
-late_found p q s t r a b u w c is here behind none third missed last some =
+-- the last of four, where nothing is in front of it
+pub last_of_four : (p q s t : List BadCause) (r a b u w : Option BadCause) → r ≡ option_or a b → a ≡ first p → b ≡ first q → r ≡ None → u ≡ first s → u ≡ None → w ≡ first t → w ≡ first (p ++ (q ++ (s ++ t)))
+last_of_four p q s t r a b u w is here behind none third missed last =
     let both : (a ≡ None) × (b ≡ None) = apart a b (sym is ∙ none) in
-    first_missed p (q ++ (s ++ t)) (sym here ∙ both.0) ∙ first_missed q (s ++ t) (sym behind ∙ both.1) ∙ first_missed s t (sym third ∙ missed) ∙ sym last ∙ some
+    last ∙ sym (first_missed p (q ++ (s ++ t)) (sym here ∙ both.0) ∙ first_missed q (s ++ t) (sym behind ∙ both.1) ∙ first_missed s t (sym third ∙ missed))
   where
     apart : (x y : Option BadCause) → option_or x y ≡ None → (x ≡ None) × (y ≡ None)
     apart None None h = (refl, refl)

@@ -1,11 +1,12 @@
 // The end of the text: what is used is defined, makers and initialisations are called, and `main` is there.
-ghost use Rattle.std.specs.Prelude.{◌≡◌, ℕ, List, ◌++◌, IfOk};
+ghost use Rattle.std.specs.Prelude.{◌≡◌, ℕ, List, [], ◌++◌, IfOk};
 ghost use Rattle.std.specs.List.{flat_map};
 ghost use Rattle.c_tree.specs.Functions.{items_of};
 ghost use Rattle.c_meaning.specs.Plain.{is_called_once, defined_names};
 ghost use Rattle.c_meaning.specs.Breaches.{has};
 ghost use Rattle.c_meaning.specs.Checked.{used_by, wanted_breaches, ends_breaches, main_breaches, breaches};
 ghost use Rattle.c_check.specs.Firsts.{first};
+ghost use Rattle.c_check.specs.Knowns.{known_of};
 
 use crate::causes::unless;
 use crate::items::{breach_of, items_breach, name_of};
@@ -76,14 +77,26 @@ fn end_breach(
     Ok(breach)
 }
 
+// The first breach of a program, where nothing is known in front of it.
+fn program_breach(
+    alloc: Global,
+    known: &mut Known,
+    items: &[CItem],
+) -> Result<Option<Breach>, OutOfMemory>
+    requires { known_of known.old ≡ record { functions = []; globals = []; names = [] } }
+    ensures { IfOk result (λ b. b ≡ first (breaches (items_of items.now))) }
+{
+    if let Some(breach) = items_breach(known, items)? {
+        return Ok(Some(breach));
+    }
+    let breach = end_breach(alloc, &known.names, items)?;
+    Ok(breach)
+}
+
 /// The first breach of a program.
 pub fn first_breach(alloc: Global, items: &[CItem]) -> Result<Option<Breach>, OutOfMemory>
     ensures { IfOk result (λ b. b ≡ first (breaches (items_of items.now))) }
 {
     let mut known = Known::new(alloc);
-    if let Some(breach) = items_breach(&mut known, items)? {
-        return Ok(Some(breach));
-    }
-    let breach = end_breach(alloc, &known.names, items)?;
-    Ok(breach)
+    program_breach(alloc, &mut known, items)
 }

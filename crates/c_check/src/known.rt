@@ -1,4 +1,4 @@
-ghost use Rattle.std.specs.Prelude.{◌≡◌, [], not, map, IfOk};
+ghost use Rattle.std.specs.Prelude.{◌≡◌, [], None, not, map, IfOk};
 ghost use Rattle.c_tree.specs.Code.{declared};
 ghost use Rattle.c_tree.specs.Functions.{fun_of};
 ghost use Rattle.c_tree.specs.Pieces.{piece_of};
@@ -25,7 +25,7 @@ use crate::variables::Variables;
 use c_meaning::BadCause;
 use c_tree::{CFun, CTy, CVar, PieceRef, pieces_in};
 use name_table::NameTable;
-use scheme_data::OutOfMemory;
+use scheme_data::{OutOfMemory, Stack, Text};
 use std::alloc::Global;
 
 /// What is declared in front of an item, and the names that are defined there.
@@ -98,9 +98,15 @@ impl Known {
         head.result_fault(gives).or(head.types_fault(params))
     }
 
-    // The variables of a function, if nothing is wrong in its head and its locals.
-    pub fn variables_of(&self, f: &CFun) -> Result<Made, OutOfMemory>
-        ensures { IfOk result (MakesVariables (head_breaches (known_of self.now) (fun_of f.now)) (variables_of (fun_of f.now))) }
+    // The first thing that is wrong in the head and the locals of a function, which become its variables.
+    fn head_fault(
+        &self,
+        f: &CFun,
+        variables: &mut Variables,
+    ) -> Result<Option<BadCause>, OutOfMemory>
+        requires { variables.old ≡ [] }
+        ensures fault { IfOk result (λ fault. fault ≡ first (head_breaches (known_of self.now) (fun_of f.now))) }
+        ensures made { IfOk result (λ fault. fault ≡ None → variables.new ≡ variables_of (fun_of f.now)) }
     {
         let name = f.name.as_bytes();
         let head = Head {
@@ -111,31 +117,33 @@ impl Known {
             .result_fault(f.result)
             .or(unless(BadCause::Twice, self.is_new(name)));
         if let Some(cause) = fault {
-            return Ok(Made::Bad(cause));
+            return Ok(Some(cause));
         }
-        let mut variables = Variables::new(self.alloc);
-        if let Some(cause) = head.params_fault(&mut variables, f.params.as_slice())? {
-            return Ok(Made::Bad(cause));
+        if let Some(cause) = head.params_fault(variables, f.params.as_slice())? {
+            return Ok(Some(cause));
         }
-        if let Some(cause) = locals_fault(&mut variables, f.locals.as_slice())? {
-            return Ok(Made::Bad(cause));
-        }
-        Ok(Made::Good(variables))
+        let fault = locals_fault(variables, f.locals.as_slice())?;
+        Ok(fault)
     }
 
-    fn scope<'a>(
-        &'a self,
-        f: &CFun,
-        variables: Variables,
-        pieces: &[PieceRef<'_>],
-    ) -> Result<Scope<'a>, OutOfMemory>
+    // The variables of a function, if nothing is wrong in its head and its locals.
+    pub fn variables_of(&self, f: &CFun) -> Result<Made, OutOfMemory>
+        ensures { IfOk result (MakesVariables (head_breaches (known_of self.now) (fun_of f.now)) (variables_of (fun_of f.now))) }
+    {
+        let mut variables = Variables::new(self.alloc);
+        match self.head_fault(f, &mut variables)? {
+            Some(cause) => Ok(Made::Bad(cause)),
+            None => Ok(Made::Good(variables)),
+        }
+    }
+
+    fn scope<'a>(&'a self, f: &CFun, variables: Variables, ahead: Stack<Text>) -> Scope<'a>
         requires { variables ≡ variables_of (fun_of f.now) }
-        ensures depths { IfOk result (λ scope. IsOpen scope.blocks) }
-        ensures start { IfOk result (λ scope. state_of scope ≡ start (body_in (known_of self.now) (fun_of f.now)) (map piece_of pieces.now)) }
+        ensures depths { IsOpen result.blocks }
+        ensures start { state_of result ≡ record { scope = body_in (known_of self.now) (fun_of f.now); frames = []; ahead = ahead } }
     {
         let role = Role::of(f.name.as_bytes());
-        let ahead = labels_ahead(self.alloc, pieces)?;
-        Ok(Scope {
+        Scope {
             alloc: self.alloc,
             role,
             gives: f.result,
@@ -147,7 +155,7 @@ impl Known {
             blocks: Blocks::new(self.alloc),
             room: Room::of(role),
             ahead,
-        })
+        }
     }
 
     fn statements_fault(
@@ -159,7 +167,8 @@ impl Known {
         requires { variables ≡ variables_of (fun_of f.now) }
         ensures { IfOk result (λ fault. fault ≡ first (walk_breaches (start (body_in (known_of self.now) (fun_of f.now)) (map piece_of pieces.now)) (map piece_of pieces.now))) }
     {
-        let mut scope = self.scope(f, variables, pieces)?;
+        let ahead = labels_ahead(self.alloc, pieces)?;
+        let mut scope = self.scope(f, variables, ahead);
         pieces_fault(&mut scope, pieces)
     }
 

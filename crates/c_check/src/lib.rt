@@ -24,6 +24,3 @@ mod variables;
 
 pub use checking::{CheckErr, Checked, check};
 pub use places::Places;
-
-#[cfg(test)]
-mod tests;

@@ -1,7 +1,8 @@
 // From programs to lines.
-ghost use Rattle.std.specs.Prelude.{◌≡◌, ◌++◌, true, IfOk, OnOk};
+ghost use Rattle.std.specs.Prelude.{◌≡◌, [], ◌++◌, map, true, IfOk, OnOk};
 ghost use Rattle.std.specs.List.{list_all};
 ghost use Rattle.c_tree.specs.Functions.{fun_of, items_of};
+ghost use Rattle.c_tree.specs.Pieces.{pieces, piece_of};
 ghost use Rattle.c_meaning.specs.Plain.{IsPlain};
 ghost use Rattle.c_machine.specs.Decoded.{last_of, code_of, has_distinct, function_of, functions_of, definition_in, definitions, IsDecoded};
 
@@ -9,7 +10,7 @@ use crate::lines::Decoding;
 use crate::names::{names_in_function, names_of_functions, place};
 use crate::program::{Function, Instr, Line};
 use c_check::Places;
-use c_tree::{CFun, CItem, CStmt, pieces_in};
+use c_tree::{CFun, CItem, CStmt, PieceRef, pieces_in};
 use name_table::NameTable;
 use scheme_data::{List, OutOfMemory};
 use std::alloc::Global;
@@ -24,6 +25,25 @@ fn last(f: &CFun) -> Instr
     }
 }
 
+// The lines of a function with these pieces.
+fn code_of_pieces(
+    alloc: Global,
+    names: &Places,
+    funs: &NameTable,
+    f: &CFun,
+    parts: &[PieceRef<'_>],
+) -> Result<List<Line>, OutOfMemory>
+    requires { map piece_of parts.now ≡ pieces (fun_of f.now).code [] }
+    ensures { IfOk result (λ code. code ≡ code_of names.now funs.now (fun_of f.now).code) }
+{
+    let end = f.stmts.as_slice().len() + 1;
+    let mut decoding = Decoding::new(alloc, end, last(f))?;
+    for i in (0..parts.len()).rev() {
+        decoding.piece(alloc, names, funs, &parts[i])?;
+    }
+    decoding.code(alloc)
+}
+
 fn code(
     alloc: Global,
     names: &Places,
@@ -32,14 +52,8 @@ fn code(
 ) -> Result<List<Line>, OutOfMemory>
     ensures { IfOk result (λ code. code ≡ code_of names.now funs.now (fun_of f.now).code) }
 {
-    let pieces = pieces_in(alloc, f)?;
-    let pieces = pieces.as_slice();
-    let end = f.stmts.as_slice().len() + 1;
-    let mut decoding = Decoding::new(alloc, end, last(f))?;
-    for i in (0..pieces.len()).rev() {
-        decoding.piece(alloc, names, funs, &pieces[i])?;
-    }
-    decoding.code(alloc)
+    let shown = pieces_in(alloc, f)?;
+    code_of_pieces(alloc, names, funs, f, shown.as_slice())
 }
 
 fn function(alloc: Global, funs: &NameTable, f: &CFun) -> Result<Function, OutOfMemory>

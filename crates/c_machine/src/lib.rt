@@ -15,6 +15,3 @@ mod stepping;
 mod words;
 
 pub use machine::{LoadErr, Machine};
-
-#[cfg(test)]
-mod tests;

@@ -1,5 +1,5 @@
 // From pieces to lines, from the last piece to the first.
-ghost use Rattle.std.specs.Prelude.{◌≡◌, ◌∷◌, IfOk, OnOk};
+ghost use Rattle.std.specs.Prelude.{◌≡◌, [], ◌∷◌, IfOk, OnOk};
 ghost use Rattle.c_tree.specs.Pieces.{piece_of, opening};
 ghost use Rattle.c_machine.specs.Decoded.{line};
 ghost use Rattle.c_machine.specs.Decoding.{started, put, shut, parted, begun, second_in, decoded};
@@ -98,6 +98,39 @@ impl Decoding {
         }
     }
 
+    // The instruction of a statement, behind what opens or ends with it.
+    fn instruction(
+        &mut self,
+        alloc: Global,
+        names: &Places,
+        funs: &NameTable,
+        s: &CStmt,
+    ) -> Result<Instr, OutOfMemory>
+        ensures { IfOk result (λ instr. put instr self.new ≡ decoded names.now funs.now (opening s.now) self.old) }
+    {
+        match s {
+            CStmt::Assign(x, e) => {
+                let to = Target::Local(local_place(names, x.as_bytes()));
+                expression(alloc, names, funs, to, e)
+            }
+            CStmt::Call(c) => call(alloc, names, funs, Target::Nowhere, c),
+            CStmt::Return(e) => expression(alloc, names, funs, Target::Caller, e),
+            CStmt::If(e, _, _) => {
+                let to = Target::Test(self.begin());
+                expression(alloc, names, funs, to, e)
+            }
+            CStmt::Loop(_, _) => {
+                let _ = self.begin();
+                Ok(Instr::Turn)
+            }
+            CStmt::Goto(_) => Ok(Instr::Stop),
+            CStmt::Ended(_, _) | CStmt::Catch(_, _, _) | CStmt::Protect(_, _) => {
+                let _ = self.begin();
+                Ok(Instr::Stop)
+            }
+        }
+    }
+
     fn statement(
         &mut self,
         alloc: Global,
@@ -107,27 +140,9 @@ impl Decoding {
     ) -> Result<(), OutOfMemory>
         ensures { OnOk result (self.new ≡ decoded names.now funs.now (opening s.now) self.old) }
     {
-        match s {
-            CStmt::Assign(x, e) => {
-                let to = Target::Local(local_place(names, x.as_bytes()));
-                self.put(expression(alloc, names, funs, to, e)?)
-            }
-            CStmt::Call(c) => self.put(call(alloc, names, funs, Target::Nowhere, c)?),
-            CStmt::Return(e) => self.put(expression(alloc, names, funs, Target::Caller, e)?),
-            CStmt::If(e, _, _) => {
-                let to = Target::Test(self.begin());
-                self.put(expression(alloc, names, funs, to, e)?)
-            }
-            CStmt::Loop(_, _) => {
-                let _ = self.begin();
-                self.put(Instr::Turn)
-            }
-            CStmt::Goto(_) => self.put(Instr::Stop),
-            CStmt::Ended(_, _) | CStmt::Catch(_, _, _) | CStmt::Protect(_, _) => {
-                let _ = self.begin();
-                self.put(Instr::Stop)
-            }
-        }
+        let instr = self.instruction(alloc, names, funs, s)?;
+        self.put(instr)?;
+        Ok(())
     }
 
     /// One more piece, in front of those that were decoded.
@@ -153,13 +168,22 @@ impl Decoding {
     {
         let mut lines = self.lines;
         let mut code = List::new(alloc);
-        code.push(Line {
-            instr: Instr::Give,
-            next: FIRST,
-        })?;
-        while let Some(line) = lines.pop() {
-            code.push(line)?;
-        }
+        push_lines(&mut lines, &mut code)?;
         Ok(code)
     }
+}
+
+// The line that gives the function's value, and these lines.
+fn push_lines(lines: &mut Stack<Line>, code: &mut List<Line>) -> Result<(), OutOfMemory>
+    requires { code.old ≡ [] }
+    ensures { OnOk result (code.new ≡ line Give 1 ∷ lines.old) }
+{
+    code.push(Line {
+        instr: Instr::Give,
+        next: FIRST,
+    })?;
+    while let Some(line) = lines.pop() {
+        code.push(line)?;
+    }
+    Ok(())
 }

@@ -9,6 +9,7 @@ pub mod Lexing
 pub mod Loops
 pub mod Many
 pub mod Means
+pub mod NameWords
 pub mod Nesting
 pub mod Numbers
 pub mod Operations

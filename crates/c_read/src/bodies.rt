@@ -1,8 +1,9 @@
 // Statements, piece by piece.
-ghost use Rattle.std.specs.Prelude.{◌≡◌, ◌∷◌, MatchBool, IfOk, OnOk, codes};
+ghost use Rattle.std.specs.Prelude.{◌≡◌, ◌∷◌, Some, MatchBool, IfOk, IsTrue, OnOk, codes};
 ghost use Rattle.c_tree.specs.Lexical.{Word, Mark};
+ghost use Rattle.c_tree.specs.Names.{is_local_name};
 ghost use Rattle.c_read.specs.Yields.{YieldsPiece, YieldsPieces, YieldsBody, laid_code, head_tokens};
-ghost use Rattle.c_read.specs.Sequences.{front, Took, TookAs, Skipped};
+ghost use Rattle.c_read.specs.Sequences.{front, Took, TookAs, Skipped, on_rest, after_mark, named};
 ghost use Rattle.c_read.specs.declared.bodies.Open.TheVariants as Open;
 ghost use Rattle.c_read.specs.Productions.{
   returned,
@@ -44,13 +45,37 @@ pub enum Open {
     Protected,
 }
 
+// A piece, with the `;` behind it.
+fn ended(tokens: &mut Tokens<'_>, piece: Piece) -> Result<Piece, Stop>
+    ensures read { Took (on_rest (after_mark 59 tokens.old) (λ left. Some (piece, left))) result tokens.new }
+    ensures spelled { IfOk result (λ x. (x ≡ piece) × (tokens.old ≡ Mark 59 ∷ tokens.new)) }
+{
+    skip(tokens, b';').and(Ok(piece))
+}
+
+// Takes two marks.
+fn skip_pair(tokens: &mut Tokens<'_>, first: u8, second: u8) -> Result<(), Stop>
+    ensures read { Skipped (on_rest (after_mark first tokens.old) (after_mark second)) result tokens.new }
+    ensures spelled { OnOk result (tokens.old ≡ Mark first ∷ Mark second ∷ tokens.new) }
+{
+    skip(tokens, first)?;
+    skip(tokens, second)
+}
+
+// A piece, with the `) {` behind it.
+fn opened(tokens: &mut Tokens<'_>, piece: Piece) -> Result<Piece, Stop>
+    ensures read { Took (on_rest (on_rest (after_mark 41 tokens.old) (after_mark 123)) (λ left. Some (piece, left))) result tokens.new }
+    ensures spelled { IfOk result (λ x. (x ≡ piece) × (tokens.old ≡ Mark 41 ∷ Mark 123 ∷ tokens.new)) }
+{
+    skip_pair(tokens, b')', b'{').and(Ok(piece))
+}
+
 fn read_returned(alloc: Global, tokens: &mut Tokens<'_>) -> Result<Piece, Stop>
     ensures read { Took (returned tokens.old) result tokens.new }
     ensures spelled { IfOk result (λ x. YieldsPiece (Word (codes "return") ∷ tokens.old) x tokens.new) }
 {
     let value = read_expression(alloc, tokens)?;
-    skip(tokens, b';')?;
-    Ok(Piece::Return(value))
+    ended(tokens, Piece::Return(value))
 }
 
 #[tactic(auto, unfolding(crate::specs::Productions::condition))]
@@ -60,9 +85,7 @@ fn read_condition(alloc: Global, tokens: &mut Tokens<'_>) -> Result<Piece, Stop>
 {
     skip(tokens, b'(')?;
     let value = read_expression(alloc, tokens)?;
-    skip(tokens, b')')?;
-    skip(tokens, b'{')?;
-    Ok(Piece::If(value))
+    opened(tokens, Piece::If(value))
 }
 
 fn read_assigned(alloc: Global, tokens: &mut Tokens<'_>, word: &[u8]) -> Result<Piece, Stop>
@@ -72,10 +95,9 @@ fn read_assigned(alloc: Global, tokens: &mut Tokens<'_>, word: &[u8]) -> Result<
     if !names_variable(word) {
         return Err(Stop::Wrong);
     }
-    let value = read_expression(alloc, tokens)?;
-    skip(tokens, b';')?;
     let name = Text::from_bytes(alloc, word)?;
-    Ok(Piece::Assign(name, value))
+    let value = read_expression(alloc, tokens)?;
+    ended(tokens, Piece::Assign(name, value))
 }
 
 #[tactic(auto, unfolding(crate::specs::Productions::after_head))]
@@ -84,10 +106,8 @@ fn skip_head(tokens: &mut Tokens<'_>) -> Result<(), Stop>
     ensures spelled { OnOk result (tokens.old ≡ head_tokens tokens.new) }
 {
     skip_text(tokens, b"for")?;
-    skip(tokens, b'(')?;
-    skip(tokens, b';')?;
-    skip(tokens, b';')?;
-    skip(tokens, b')')?;
+    skip_pair(tokens, b'(', b';')?;
+    skip_pair(tokens, b';', b')')?;
     skip(tokens, b'{')
 }
 
@@ -109,8 +129,7 @@ fn read_called(alloc: Global, tokens: &mut Tokens<'_>, word: &[u8]) -> Result<Pi
 {
     skip(tokens, b'(')?;
     let call = read_call(alloc, tokens, word)?;
-    skip(tokens, b';')?;
-    Ok(Piece::Call(call))
+    ended(tokens, Piece::Call(call))
 }
 
 #[tactic(auto, unfolding(crate::specs::Productions::named_statement))]
@@ -133,8 +152,16 @@ fn read_jump(alloc: Global, tokens: &mut Tokens<'_>) -> Result<Piece, Stop>
     ensures spelled { IfOk result (λ x. YieldsPiece (Word (codes "goto") ∷ tokens.old) x tokens.new) }
 {
     let label = target_name(alloc, tokens)?;
-    skip(tokens, b';')?;
-    Ok(Piece::Goto(label))
+    ended(tokens, Piece::Goto(label))
+}
+
+// The second name of a block with an exit.
+fn read_carried(alloc: Global, tokens: &mut Tokens<'_>) -> Result<Text, Stop>
+    ensures read { Took (on_rest (after_mark 44 tokens.old) (named is_local_name)) result tokens.new }
+    ensures spelled { IfOk result (λ w. (tokens.old ≡ Mark 44 ∷ Word w ∷ tokens.new) × IsTrue (is_local_name w)) }
+{
+    skip(tokens, b',')?;
+    local_name(alloc, tokens)
 }
 
 #[tactic(auto, unfolding(crate::specs::Productions::catching))]
@@ -144,11 +171,8 @@ fn read_catching(alloc: Global, tokens: &mut Tokens<'_>) -> Result<Piece, Stop>
 {
     skip(tokens, b'(')?;
     let exit = local_name(alloc, tokens)?;
-    skip(tokens, b',')?;
-    let carried = local_name(alloc, tokens)?;
-    skip(tokens, b')')?;
-    skip(tokens, b'{')?;
-    Ok(Piece::Catch(exit, carried))
+    let carried = read_carried(alloc, tokens)?;
+    opened(tokens, Piece::Catch(exit, carried))
 }
 
 fn read_protecting(tokens: &mut Tokens<'_>) -> Result<Piece, Stop>
@@ -206,9 +230,7 @@ fn read_ended(alloc: Global, tokens: &mut Tokens<'_>) -> Result<Piece, Stop>
     ensures spelled { IfOk result (λ x. YieldsPiece (Mark 125 ∷ tokens.old) x tokens.new) }
 {
     let label = end_label_name(alloc, tokens)?;
-    skip(tokens, b':')?;
-    skip(tokens, b';')?;
-    Ok(Piece::Ended(label))
+    skip_pair(tokens, b':', b';').and(Ok(Piece::Ended(label)))
 }
 
 #[tactic(auto, unfolding(crate::specs::Productions::closing_of))]
@@ -307,8 +329,9 @@ fn read_pieces(alloc: Global, tokens: &mut Tokens<'_>) -> Result<List<Piece>, St
     let mut opens = Stack::new(alloc);
     while !took_end(tokens, &opens) {
         let piece = read_piece(alloc, &opens, tokens)?;
-        pass(&mut opens, &piece)?;
+        let passed = pass(&mut opens, &piece);
         pieces.push(piece)?;
+        passed?;
     }
     Ok(pieces)
 }

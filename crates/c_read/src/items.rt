@@ -96,8 +96,7 @@ fn read_local(alloc: Global, tokens: &mut Tokens<'_>) -> Result<CVar, Stop>
     ensures spelled { IfOk result (λ x. YieldsVar tokens.old x (Mark 59 ∷ tokens.new)) }
 {
     let var = read_variable(alloc, tokens)?;
-    skip(tokens, b';')?;
-    Ok(var)
+    skip(tokens, b';').and(Ok(var))
 }
 
 fn read_locals(alloc: Global, tokens: &mut Tokens<'_>) -> Result<List<CVar>, Stop>
@@ -117,12 +116,13 @@ fn read_definition(
     alloc: Global,
     tokens: &mut Tokens<'_>,
     result_type: CTy,
-    name: Text,
+    name: &[u8],
     params: List<CVar>,
 ) -> Result<CItem, Stop>
-    ensures read { TookAs item_of (definition result_type name params tokens.old) result tokens.new }
-    ensures spelled { IfOk result (λ i. YieldsDefinition result_type name params tokens.old i tokens.new) }
+    ensures read { TookAs item_of (definition result_type name.now params tokens.old) result tokens.new }
+    ensures spelled { IfOk result (λ i. YieldsDefinition result_type name.now params tokens.old i tokens.new) }
 {
+    let name = Text::from_bytes(alloc, name)?;
     let locals = read_locals(alloc, tokens)?;
     let Layout { body, stmts } = read_body(alloc, tokens)?;
     Ok(CItem::Defined(CFun {
@@ -140,12 +140,13 @@ fn read_without_params(
     alloc: Global,
     tokens: &mut Tokens<'_>,
     result_type: CTy,
-    name: Text,
+    name: &[u8],
 ) -> Result<CItem, Stop>
-    ensures read { TookAs item_of (without_params result_type name tokens.old) result tokens.new }
-    ensures spelled { IfOk result (λ i. YieldsRest result_type name (Word (codes "void") ∷ Mark 41 ∷ tokens.old) i tokens.new) }
+    ensures read { TookAs item_of (without_params result_type name.now tokens.old) result tokens.new }
+    ensures spelled { IfOk result (λ i. YieldsRest result_type name.now (Word (codes "void") ∷ Mark 41 ∷ tokens.old) i tokens.new) }
 {
     if tokens.take_mark(b';') {
+        let name = Text::from_bytes(alloc, name)?;
         return Ok(CItem::Declared(result_type, name, List::new(alloc)));
     }
     skip(tokens, b'{')?;
@@ -157,15 +158,15 @@ fn read_with_types(
     alloc: Global,
     tokens: &mut Tokens<'_>,
     result_type: CTy,
-    name: Text,
+    name: &[u8],
     first: CTy,
 ) -> Result<CItem, Stop>
-    ensures read { TookAs item_of (with_types result_type name first tokens.old) result tokens.new }
-    ensures spelled { IfOk result (λ i. YieldsRest result_type name (Word (type_text first) ∷ tokens.old) i tokens.new) }
+    ensures read { TookAs item_of (with_types result_type name.now first tokens.old) result tokens.new }
+    ensures spelled { IfOk result (λ i. YieldsRest result_type name.now (Word (type_text first) ∷ tokens.old) i tokens.new) }
 {
+    let name = Text::from_bytes(alloc, name)?;
     let types = read_types(alloc, tokens, first)?;
-    skip(tokens, b';')?;
-    Ok(CItem::Declared(result_type, name, types))
+    skip(tokens, b';').and(Ok(CItem::Declared(result_type, name, types)))
 }
 
 #[tactic(auto, unfolding(crate::specs::Productions::with_names))]
@@ -173,11 +174,11 @@ fn read_with_names(
     alloc: Global,
     tokens: &mut Tokens<'_>,
     result_type: CTy,
-    name: Text,
+    name: &[u8],
     first: CTy,
 ) -> Result<CItem, Stop>
-    ensures read { TookAs item_of (with_names result_type name first tokens.old) result tokens.new }
-    ensures spelled { IfOk result (λ i. YieldsRest result_type name (Word (type_text first) ∷ tokens.old) i tokens.new) }
+    ensures read { TookAs item_of (with_names result_type name.now first tokens.old) result tokens.new }
+    ensures spelled { IfOk result (λ i. YieldsRest result_type name.now (Word (type_text first) ∷ tokens.old) i tokens.new) }
 {
     let first_name = local_name(alloc, tokens)?;
     let params = read_params(
@@ -197,10 +198,10 @@ fn read_with_params(
     alloc: Global,
     tokens: &mut Tokens<'_>,
     result_type: CTy,
-    name: Text,
+    name: &[u8],
 ) -> Result<CItem, Stop>
-    ensures read { TookAs item_of (with_params result_type name tokens.old) result tokens.new }
-    ensures spelled { IfOk result (λ i. YieldsRest result_type name tokens.old i tokens.new) }
+    ensures read { TookAs item_of (with_params result_type name.now tokens.old) result tokens.new }
+    ensures spelled { IfOk result (λ i. YieldsRest result_type name.now tokens.old i tokens.new) }
 {
     let first = type_word(tokens)?;
     if is_word_next(tokens) {
@@ -214,10 +215,10 @@ fn read_item_rest(
     alloc: Global,
     tokens: &mut Tokens<'_>,
     result_type: CTy,
-    name: Text,
+    name: &[u8],
 ) -> Result<CItem, Stop>
-    ensures read { TookAs item_of (item_rest result_type name tokens.old) result tokens.new }
-    ensures spelled { IfOk result (λ i. YieldsRest result_type name tokens.old i tokens.new) }
+    ensures read { TookAs item_of (item_rest result_type name.now tokens.old) result tokens.new }
+    ensures spelled { IfOk result (λ i. YieldsRest result_type name.now tokens.old i tokens.new) }
 {
     if is_void_next(tokens) {
         let _ = word(tokens)?;
@@ -234,8 +235,7 @@ fn read_external(alloc: Global, tokens: &mut Tokens<'_>) -> Result<CItem, Stop>
 {
     let ty = type_word(tokens)?;
     let name = global_name(alloc, tokens)?;
-    skip(tokens, b';')?;
-    Ok(CItem::Extern(CVar { ty, name }))
+    skip(tokens, b';').and(Ok(CItem::Extern(CVar { ty, name })))
 }
 
 #[tactic(auto, unfolding(crate::specs::Productions::item_named))]
@@ -257,8 +257,7 @@ fn read_item_named(
         return Err(Stop::Wrong);
     }
     skip(tokens, b'(')?;
-    let name = Text::from_bytes(alloc, word)?;
-    read_item_rest(alloc, tokens, ty, name)
+    read_item_rest(alloc, tokens, ty, word)
 }
 
 #[tactic(auto, unfolding(crate::specs::Productions::typed_item))]

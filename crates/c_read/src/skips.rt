@@ -1,7 +1,7 @@
 // Single tokens.
-ghost use Rattle.std.specs.Prelude.{◌≡◌, ◌∷◌, OnOk, IfOk, IsTrue};
+ghost use Rattle.std.specs.Prelude.{◌≡◌, List, ◌∷◌, Some, None, if◌then◌else◌, OnOk, IfOk, IsTrue};
 ghost use Rattle.std.specs.Option.{is_some};
-ghost use Rattle.c_tree.specs.Lexical.{Word, Mark};
+ghost use Rattle.c_tree.specs.Lexical.{Token, Word, Mark};
 ghost use Rattle.c_tree.specs.Spelling.{type_text};
 ghost use Rattle.c_tree.specs.Names.{is_entry_name, is_global_name, is_local_name, is_end_label_name, is_target_name};
 ghost use Rattle.c_read.specs.Sequences.{Took, TookAs, lent, Skipped, after_mark, after_text, word_first, named, first_word, is_first};
@@ -49,16 +49,24 @@ pub fn skip_text(tokens: &mut Tokens<'_>, text: &[u8]) -> Result<(), Stop>
     Err(Stop::Wrong)
 }
 
+// The name that a word is, where it is allowed.
+fn name_if(alloc: Global, word: &[u8], allowed: bool) -> Result<Text, Stop>
+    ensures read { (rest : List Token) → Took (if allowed then Some (word.now, rest) else None) result rest }
+    ensures spelled { IfOk result (λ w. (w ≡ word.now) × IsTrue allowed) }
+{
+    if !allowed {
+        return Err(Stop::Wrong);
+    }
+    let name = Text::from_bytes(alloc, word)?;
+    Ok(name)
+}
+
 pub fn local_name(alloc: Global, tokens: &mut Tokens<'_>) -> Result<Text, Stop>
     ensures read { Took (named is_local_name tokens.old) result tokens.new }
     ensures spelled { IfOk result (λ w. (tokens.old ≡ Word w ∷ tokens.new) × IsTrue (is_local_name w)) }
 {
     let word = word(tokens)?;
-    if names_local(word) {
-        let name = Text::from_bytes(alloc, word)?;
-        return Ok(name);
-    }
-    Err(Stop::Wrong)
+    name_if(alloc, word, names_local(word))
 }
 
 pub fn global_name(alloc: Global, tokens: &mut Tokens<'_>) -> Result<Text, Stop>
@@ -66,11 +74,7 @@ pub fn global_name(alloc: Global, tokens: &mut Tokens<'_>) -> Result<Text, Stop>
     ensures spelled { IfOk result (λ w. (tokens.old ≡ Word w ∷ tokens.new) × IsTrue (is_global_name w)) }
 {
     let word = word(tokens)?;
-    if names_global(word) {
-        let name = Text::from_bytes(alloc, word)?;
-        return Ok(name);
-    }
-    Err(Stop::Wrong)
+    name_if(alloc, word, names_global(word))
 }
 
 pub fn entry_name(alloc: Global, tokens: &mut Tokens<'_>) -> Result<Text, Stop>
@@ -78,11 +82,7 @@ pub fn entry_name(alloc: Global, tokens: &mut Tokens<'_>) -> Result<Text, Stop>
     ensures spelled { IfOk result (λ w. (tokens.old ≡ Word w ∷ tokens.new) × IsTrue (is_entry_name w)) }
 {
     let word = word(tokens)?;
-    if names_entry(word) {
-        let name = Text::from_bytes(alloc, word)?;
-        return Ok(name);
-    }
-    Err(Stop::Wrong)
+    name_if(alloc, word, names_entry(word))
 }
 
 pub fn end_label_name(alloc: Global, tokens: &mut Tokens<'_>) -> Result<Text, Stop>
@@ -90,11 +90,7 @@ pub fn end_label_name(alloc: Global, tokens: &mut Tokens<'_>) -> Result<Text, St
     ensures spelled { IfOk result (λ w. (tokens.old ≡ Word w ∷ tokens.new) × IsTrue (is_end_label_name w)) }
 {
     let word = word(tokens)?;
-    if names_end_label(word) {
-        let name = Text::from_bytes(alloc, word)?;
-        return Ok(name);
-    }
-    Err(Stop::Wrong)
+    name_if(alloc, word, names_end_label(word))
 }
 
 pub fn target_name(alloc: Global, tokens: &mut Tokens<'_>) -> Result<Text, Stop>
@@ -102,11 +98,7 @@ pub fn target_name(alloc: Global, tokens: &mut Tokens<'_>) -> Result<Text, Stop>
     ensures spelled { IfOk result (λ w. (tokens.old ≡ Word w ∷ tokens.new) × IsTrue (is_target_name w)) }
 {
     let word = word(tokens)?;
-    if names_target(word) {
-        let name = Text::from_bytes(alloc, word)?;
-        return Ok(name);
-    }
-    Err(Stop::Wrong)
+    name_if(alloc, word, names_target(word))
 }
 
 #[tactic(auto, unfolding(crate::specs::Productions::type_first))]

@@ -167,3 +167,8 @@ kept types items i d qs new b seen now x added s h w n t a f e r g =
       on types items i d qs b h r g ∙ ap (λ new. glued new (binders_of types (data_of (drop (i + 1) items)))) (sym n),
       ap (λ new. glued new (Some [])) n ∙ (whole-more qs b w fresh ∙ ap Some (sym n)),
     )
+
+-- none is left
+pub glued_all : (types : Bool) (items left : List Datum) (bs : List Binder) → binders_of types (data_of items) ≡ glued bs (binders_of types (data_of left)) → glued bs (Some []) ≡ Some bs → left ≡ []
+    → ◌≡◌ {A = Option (List Binder)} (Some bs) (binders_of types (data_of items))
+glued_all types items left bs e f g = sym (e ∙ (ap (λ (left : List Datum). glued bs (binders_of types (data_of left))) g ∙ f))

@@ -8,3 +8,4 @@ pub mod Distinct
 pub mod Trees
 pub mod Rows
 pub mod Sides
+pub mod Chains

@@ -6,7 +6,7 @@ use Rattle.scheme_data.specs.declared.datum.Datum.{Datum}
 use Rattle.scheme_data.specs.declared.datum.Datum.TheViews as views
 use Rattle.scheme_data.specs.Forms.{Form, Forms, form, atom, symbol, listed, dotted, vector, end, next, form_nesting, forms_nesting}
 use Rattle.core_forms.specs.Code.{data_of, one_less, left_in, left_all, nests_in, all_nest_in}
-use Rattle.core_forms.proofs.Views.{form-Dotted}
+use Rattle.core_forms.proofs.Views.{form-List, form-Dotted, form-Vector}
 
 -- Nesting -------------------------------------------------------------------------------
 
@@ -66,6 +66,16 @@ one-off most false e f = rw e refl
 
 pub not-zero : (most : ℕ) → (most ≡ 0 → ⊥) → nat_eq most 0 ≡ false
 not-zero most h = grind (arith, nat_tests)
+
+pub list-left : (most : ℕ) (d : Datum) (at : Place) (ds now : List Datum) (o : Option ℕ) → nat_eq most 0 ≡ false → d ≡ views.List at ds → now ≡ ds → o ≡ left_all (Some (most - 1)) (data_of now)
+    → o ≡ left_in (Some most) (form d)
+list-left most d at ds now o z e g h =
+    h ∙ (ap (λ ds. left_all (Some (most - 1)) (data_of ds)) g ∙ (ap (λ o. left_all o (data_of ds)) (sym (one-off most (nat_eq most 0) refl z)) ∙ rw (e, form-List at ds) refl))
+
+pub vector-left : (most : ℕ) (d : Datum) (at : Place) (ds now : List Datum) (o : Option ℕ) → nat_eq most 0 ≡ false → d ≡ views.Vector at ds → now ≡ ds → o ≡ left_all (Some (most - 1)) (data_of now)
+    → o ≡ left_in (Some most) (form d)
+vector-left most d at ds now o z e g h =
+    h ∙ (ap (λ ds. left_all (Some (most - 1)) (data_of ds)) g ∙ (ap (λ o. left_all o (data_of ds)) (sym (one-off most (nat_eq most 0) refl z)) ∙ rw (e, form-Vector at ds) refl))
 
 pub dotted-left : (most : ℕ) (d : Datum) (at : Place) (ds now : List Datum) (tail : Datum) (o : Option ℕ) → nat_eq most 0 ≡ false → d ≡ views.Dotted at ds tail → now ≡ ds → o ≡ left_all (Some (most - 1)) (data_of now)
     → left_in o (form tail) ≡ left_in (Some most) (form d)

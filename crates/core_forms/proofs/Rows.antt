@@ -6,7 +6,7 @@ use Rattle.scheme_data.specs.declared.datum.Datum.{Datum}
 use Rattle.scheme_data.specs.declared.datum.Datum as datum
 use Rattle.scheme_data.specs.Forms.{Forms, symbol, listed, next, form}
 use Rattle.scheme_data.specs.TypedNames.{has_type}
-use Rattle.core_forms.specs.Mid.{branch, sequence, assigned, binding, recursive, protected, own_nesting, mid_nesting, parts_nesting, Parts, none, part, node, raw, body, lambda_form}
+use Rattle.core_forms.specs.Mid.{branch, sequence, assigned, binding, recursive, protected, quoted, own_nesting, mid_nesting, parts_nesting, Parts, none, part, node, raw, body, lambda_form}
 use Rattle.core_forms.specs.Names.{binder_of, binders_of, seconds}
 use Rattle.core_forms.specs.Table.{raws, lambdas, Turn, becomes, refuses, function_turn, exit_turn, let_turn, letrec_turn, core_turn}
 use Rattle.core_forms.specs.Code.{data_of}
@@ -111,9 +111,16 @@ made-as t u r n e h = subst (λ t. MakesAs t r n) (sym e) h
 -- Shapes --------------------------------------------------------------------------------
 
 module _ (n : Counts) (at : Place) where
-  pub quote-more : (ds left : List Datum) (d : Datum) → ds ≡ d ∷ left → (left ≡ [] → ⊥) → core_turn n at key.Quote (data_of ds) ≡ refuses (fault.Form at)
-  quote-more ds [] d e h = absurd (h refl)
-  quote-more ds (b ∷ left) d e h = ap (λ ds. core_turn n at key.Quote (data_of ds)) e
+  pub quote-wrong : (ds : List Datum) (k : ℕ) → k ≡ length ds → (k ≡ 1 → ⊥) → core_turn n at key.Quote (data_of ds) ≡ refuses (fault.Form at)
+  quote-wrong [] k is h = refl
+  quote-wrong (d ∷ []) k is h = absurd (h is)
+  quote-wrong (d ∷ e ∷ ds) k is h = refl
+
+  pub quote-is : (ds left : List Datum) (d : Datum) (k : ℕ) → ds ≡ d ∷ left → k ≡ length ds → k ≡ 1 → core_turn n at key.Quote (data_of ds) ≡ becomes n (node at (quoted (form d)) none)
+  quote-is ds left d k e is one = ap (λ ds. core_turn n at key.Quote (data_of ds)) e ∙ go left (sym (ap length e) ∙ (sym is ∙ one)) where
+    go : (left : List Datum) → length (d ∷ left) ≡ 1 → core_turn n at key.Quote (data_of (d ∷ left)) ≡ becomes n (node at (quoted (form d)) none)
+    go [] h = refl
+    go (e ∷ left) h = absurd (omega (arith, h))
 
   pub if-few : (ds : List Datum) → length ds < 2 → core_turn n at key.If (data_of ds) ≡ refuses (fault.Form at)
   if-few [] h = refl
@@ -194,3 +201,10 @@ module _ (n : Counts) (at : Place) where
   exit-is ds list left (b ∷ bs) d o h e f g =
       ap (core_turn n at key.BindExit) h.is ∙ (ap (λ list. core_turn n at key.BindExit (next (listed h.place (data_of list)) (data_of (b ∷ bs)))) (e ∙ ap (λ left. left ++ d ∷ []) f)
       ∙ ap (λ o. exit_turn n at o (data_of (b ∷ bs))) (sym g))
+
+pub no-values : (es : List Datum) → es ≡ [] → 2 ≡ binding_nesting es
+no-values es e = sym (ap binding_nesting e)
+
+pub some-values : (es : List Datum) → (es ≡ [] → ⊥) → 3 ≡ binding_nesting es
+some-values [] h = absurd (h refl)
+some-values (e ∷ es) h = refl

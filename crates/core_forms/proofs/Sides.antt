@@ -1,25 +1,46 @@
 -- The two sides of bindings.
-use Rattle.std.proofs.Common.{◌≡◌, Bool, false, List, [], ◌∷◌, ◌++◌, Option, None, refl, sym, ap, ◌∙◌}
+use Rattle.std.proofs.Common.{◌≡◌, Bool, false, List, [], ◌∷◌, ◌++◌, Option, None, refl, sym, ap, ◌∙◌, ℕ, length, Some, arith, append_assoc}
+use Rattle.std.proofs.lemmas.List.{append-nil}
+use Rattle.std.specs.List.{slice_get, remove}
 use Rattle.scheme_data.specs.declared.datum.Place.{Place}
 use Rattle.scheme_data.specs.declared.datum.Datum.{Datum}
-use Rattle.scheme_data.specs.declared.datum.Datum.TheViews as views
 use Rattle.scheme_data.specs.Forms.{Form, Forms, listed, atom, symbol, dotted, vector, end, next, form, form_place, join}
 use Rattle.core_forms.specs.Names.{are_pairs, firsts, seconds, names_of, binders_of}
-use Rattle.core_forms.specs.Code.{data_of}
+use Rattle.core_forms.specs.Code.{data_of, items_in}
 use Rattle.core_forms.specs.Working.{AreBindings}
 use Rattle.core_forms.specs.declared.core_form.Binder.{Binder}
-use Rattle.core_forms.proofs.Views.{form-List, join_last}
+use Rattle.core_forms.proofs.Views.{join_last}
 
 -- One binding ---------------------------------------------------------------------------
 
-pub three_are_none : (d : Datum) (at : Place) (all two one : List Datum) (value name : Datum) → d ≡ views.List at all → all ≡ two ++ value ∷ [] → two ≡ one ++ name ∷ [] → (one ≡ [] → ⊥) → are_pairs (next (form d) end) ≡ false
-three_are_none d at all two [] value name e f g h = absurd (h refl)
-three_are_none d at all two (x ∷ []) value name e f g h =
-    ap (λ d. are_pairs (next (form d) end)) e ∙ (ap (λ f. are_pairs (next f end)) (form-List at all) ∙ ap (λ all. are_pairs (next (listed at (data_of all)) end)) (f ∙ ap (λ two. two ++ value ∷ []) g))
-three_are_none d at all two (x ∷ y ∷ []) value name e f g h =
-    ap (λ d. are_pairs (next (form d) end)) e ∙ (ap (λ f. are_pairs (next f end)) (form-List at all) ∙ ap (λ all. are_pairs (next (listed at (data_of all)) end)) (f ∙ ap (λ two. two ++ value ∷ []) g))
-three_are_none d at all two (x ∷ y ∷ z ∷ one) value name e f g h =
-    ap (λ d. are_pairs (next (form d) end)) e ∙ (ap (λ f. are_pairs (next f end)) (form-List at all) ∙ ap (λ all. are_pairs (next (listed at (data_of all)) end)) (f ∙ ap (λ two. two ++ value ∷ []) g))
+some_same : {A : Type 0} (a b : A) → Some a ≡ Some b → a ≡ b
+some_same a b e = cc
+
+two_sides : (p : Place) (ds : List Datum) → (length ds ≡ 2 → ⊥) → are_pairs (next (listed p (data_of ds)) end) ≡ false
+two_sides p [] h = refl
+two_sides p (a ∷ []) h = refl
+two_sides p (a ∷ b ∷ []) h = absurd (h refl)
+two_sides p (a ∷ b ∷ c ∷ ds) h = refl
+
+pub wrong_length_is_no_pair : (f : Form) (ds : List Datum) (k : ℕ) → items_in f ≡ Some (data_of ds) → k ≡ length ds → (k ≡ 2 → ⊥) → are_pairs (next f end) ≡ false
+wrong_length_is_no_pair (listed p es) ds k e is h = ap (λ es. are_pairs (next (listed p es) end)) (some_same _ _ e) ∙ two_sides p ds (λ two. h (is ∙ two))
+wrong_length_is_no_pair (atom p a) ds k e is h = refl
+wrong_length_is_no_pair (symbol p x m) ds k e is h = refl
+wrong_length_is_no_pair (dotted p es d) ds k e is h = refl
+wrong_length_is_no_pair (vector p es) ds k e is h = refl
+
+-- what is left behind the second and then the first of two
+pub pair_is : (f : Form) (ds one : List Datum) (k : ℕ) (value name : Datum) → items_in f ≡ Some (data_of ds) → k ≡ length ds → k ≡ 2 → slice_get ds 1 ≡ Some value → one ≡ remove ds 1 → slice_get one 0 ≡ Some name
+    → f ≡ listed (form_place f) (next (form name) (next (form value) end))
+pair_is (listed p es) (a ∷ b ∷ []) one k value name e is two second left first =
+    ap (listed p) (some_same _ _ e ∙ (ap (λ (a : Datum). next (form a) (next (form b) end)) (some_same _ _ (sym (ap (λ one. slice_get one 0) left) ∙ first)) ∙ ap (λ (b : Datum). next (form name) (next (form b) end)) (some_same _ _ second)))
+pair_is (listed p es) [] one k value name e is two second left first = absurd (omega (arith, is, two))
+pair_is (listed p es) (a ∷ []) one k value name e is two second left first = absurd (omega (arith, is, two))
+pair_is (listed p es) (a ∷ b ∷ c ∷ ds) one k value name e is two second left first = absurd (omega (arith, is, two))
+pair_is (atom p a) ds one k value name e is two second left first = absurd (cc)
+pair_is (symbol p x m) ds one k value name e is two second left first = absurd (cc)
+pair_is (dotted p es d) ds one k value name e is two second left first = absurd (cc)
+pair_is (vector p es) ds one k value name e is two second left first = absurd (cc)
 
 -- All of them ---------------------------------------------------------------------------
 
@@ -70,3 +91,17 @@ no_pairs types ds h = rw h refl
 
 pub names_by : (types : Bool) (ds : Forms) (names values : List Datum) (o : Option (List Binder)) → AreBindings ds names values → o ≡ binders_of types (data_of names) → names_of types ds ≡ o
 names_by types ds names values o h e = rw (h.pairs, h.names_are, e) refl
+
+-- From one list into another ------------------------------------------------------------
+
+pub moved : (whole some left more rest : List Datum) (d : Datum) → some ++ left ≡ whole → left ≡ d ∷ rest → more ≡ some ++ d ∷ [] → more ++ rest ≡ whole
+moved whole some left more rest d e f g = ap (λ more. more ++ rest) g ∙ (append_assoc some (d ∷ []) rest ∙ (ap (λ left. some ++ left) (sym f) ∙ e))
+
+pub all_moved : (whole some left : List Datum) → some ++ left ≡ whole → left ≡ [] → some ≡ whole
+all_moved whole some left e f = sym (append-nil some) ∙ (ap (λ left. some ++ left) (sym f) ∙ e)
+
+pub moved_back : (whole left some more rest : List Datum) (d : Datum) → left ++ some ≡ whole → left ≡ rest ++ d ∷ [] → more ≡ d ∷ some → rest ++ more ≡ whole
+moved_back whole left some more rest d e f g = ap (λ more. rest ++ more) g ∙ (sym (append_assoc rest (d ∷ []) some) ∙ (ap (λ left. left ++ some) (sym f) ∙ e))
+
+pub all_moved_back : (whole left some : List Datum) → left ++ some ≡ whole → left ≡ [] → some ≡ whole
+all_moved_back whole left some e f = sym (ap (λ left. left ++ some) f) ∙ e

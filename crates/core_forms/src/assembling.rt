@@ -11,20 +11,22 @@ use scheme_data::{Place, Text};
 use sqlite_items::{Boxed, Items};
 use std::alloc::Global;
 
-fn last(cs: &mut Items<CoreExpr>) -> Result<CoreExpr, ExpandErr>
+/// The last of these, which is taken off.
+fn last(alloc: Global, cs: &mut Items<CoreExpr>) -> Result<Boxed<CoreExpr>, ExpandErr>
     ensures { LastOf cs.old result cs.new }
 {
     match cs.pop() {
-        Some(c) => Ok(c),
+        Some(c) => Ok(Boxed::new(alloc, c)?),
         None => Err(ExpandErr::Memory),
     }
 }
 
-fn only(cs: Items<CoreExpr>) -> Result<CoreExpr, ExpandErr>
+/// The one that there is.
+fn only(alloc: Global, cs: Items<CoreExpr>) -> Result<Boxed<CoreExpr>, ExpandErr>
     ensures { OkOrMemory result (λ c. cs ≡ c ∷ []) }
 {
     let mut cs = cs;
-    let c = last(&mut cs)?;
+    let c = last(alloc, &mut cs)?;
     if cs.is_empty() {
         Ok(c)
     } else {
@@ -40,8 +42,7 @@ fn lambda(
 ) -> Result<CoreExpr, ExpandErr>
     ensures { OkOrMemory result (λ c. tree c ≡ made at (function xs) (trees_then (map tree cs) leaf)) }
 {
-    let b = only(cs)?;
-    let b = Boxed::new(alloc, b)?;
+    let b = only(alloc, cs)?;
     Ok(CoreExpr::Lambda(at, xs, b))
 }
 
@@ -49,35 +50,12 @@ fn branches(alloc: Global, at: Place, cs: Items<CoreExpr>) -> Result<CoreExpr, E
     ensures { OkOrMemory result (λ c. tree c ≡ made at branch (trees_then (map tree cs) leaf)) }
 {
     let mut cs = cs;
-    let c = last(&mut cs)?;
-    let b = last(&mut cs)?;
+    let c = last(alloc, &mut cs)?;
+    let b = last(alloc, &mut cs)?;
     if cs.is_empty() {
-        return one_armed(alloc, at, b, c);
+        return Ok(CoreExpr::OneArmed(at, b, c));
     }
-    let a = only(cs)?;
-    two_armed(alloc, at, a, b, c)
-}
-
-fn one_armed(alloc: Global, at: Place, a: CoreExpr, b: CoreExpr) -> Result<CoreExpr, ExpandErr>
-    ensures { OkOrMemory result (λ c. tree c ≡ made at branch (trees_then (map tree (a ∷ b ∷ [])) leaf)) }
-{
-    let a = Boxed::new(alloc, a)?;
-    let b = Boxed::new(alloc, b)?;
-    Ok(CoreExpr::OneArmed(at, a, b))
-}
-
-fn two_armed(
-    alloc: Global,
-    at: Place,
-    a: CoreExpr,
-    b: CoreExpr,
-    c: CoreExpr,
-) -> Result<CoreExpr, ExpandErr>
-    ensures { OkOrMemory result (λ d. tree d ≡ made at branch (trees_then (map tree (a ∷ b ∷ c ∷ [])) leaf)) }
-{
-    let a = Boxed::new(alloc, a)?;
-    let b = Boxed::new(alloc, b)?;
-    let c = Boxed::new(alloc, c)?;
+    let a = only(alloc, cs)?;
     Ok(CoreExpr::If(at, a, b, c))
 }
 
@@ -90,8 +68,7 @@ fn assignment(
 ) -> Result<CoreExpr, ExpandErr>
     ensures { OkOrMemory result (λ c. tree c ≡ made at (assigned x m) (trees_then (map tree cs) leaf)) }
 {
-    let e = only(cs)?;
-    let e = Boxed::new(alloc, e)?;
+    let e = only(alloc, cs)?;
     Ok(CoreExpr::Set(at, x, m, e))
 }
 
@@ -104,8 +81,7 @@ fn bindings(
     ensures { OkOrMemory result (λ c. tree c ≡ made at (binding xs) (trees_then (map tree cs) leaf)) }
 {
     let mut cs = cs;
-    let b = last(&mut cs)?;
-    let b = Boxed::new(alloc, b)?;
+    let b = last(alloc, &mut cs)?;
     Ok(CoreExpr::Let(at, xs, cs, b))
 }
 
@@ -118,34 +94,32 @@ fn recursion(
     ensures { OkOrMemory result (λ c. tree c ≡ made at (recursive xs) (trees_then (map tree cs) leaf)) }
 {
     let mut cs = cs;
-    let b = last(&mut cs)?;
-    let b = Boxed::new(alloc, b)?;
+    let b = last(alloc, &mut cs)?;
     Ok(CoreExpr::Letrec(at, xs, cs, b))
 }
 
 fn exits(alloc: Global, at: Place, x: Binder, cs: Items<CoreExpr>) -> Result<CoreExpr, ExpandErr>
     ensures { OkOrMemory result (λ c. tree c ≡ made at (exit x) (trees_then (map tree cs) leaf)) }
 {
-    let b = only(cs)?;
-    let b = Boxed::new(alloc, b)?;
+    let b = only(alloc, cs)?;
     Ok(CoreExpr::BindExit(at, x, b))
 }
 
-fn first(cs: &mut Items<CoreExpr>) -> Result<CoreExpr, ExpandErr>
+/// The first of these, which is taken off.
+fn first(alloc: Global, cs: &mut Items<CoreExpr>) -> Result<Boxed<CoreExpr>, ExpandErr>
     ensures { FirstOf cs.old result cs.new }
 {
     if cs.is_empty() {
         return Err(ExpandErr::Memory);
     }
-    Ok(cs.remove(0))
+    Ok(Boxed::new(alloc, cs.remove(0))?)
 }
 
 fn protection(alloc: Global, at: Place, cs: Items<CoreExpr>) -> Result<CoreExpr, ExpandErr>
     ensures { OkOrMemory result (λ c. tree c ≡ made at protected (trees_then (map tree cs) leaf)) }
 {
     let mut cs = cs;
-    let e = first(&mut cs)?;
-    let e = Boxed::new(alloc, e)?;
+    let e = first(alloc, &mut cs)?;
     Ok(CoreExpr::UnwindProtect(at, e, cs))
 }
 
@@ -153,8 +127,7 @@ fn application(alloc: Global, at: Place, cs: Items<CoreExpr>) -> Result<CoreExpr
     ensures { OkOrMemory result (λ c. tree c ≡ made at call (trees_then (map tree cs) leaf)) }
 {
     let mut cs = cs;
-    let e = first(&mut cs)?;
-    let e = Boxed::new(alloc, e)?;
+    let e = first(alloc, &mut cs)?;
     Ok(CoreExpr::Call(at, e, cs))
 }
 

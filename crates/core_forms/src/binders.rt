@@ -6,6 +6,7 @@ ghost use Rattle.core_forms.specs.Code.{may_have_types, data_of};
 ghost use Rattle.core_forms.specs.Working.{BindingsAs};
 ghost use Rattle.core_forms.specs.Shapes.{PairAs};
 
+use crate::build::items_of;
 use crate::core_form::Binder;
 use marked_names::MarkedNames;
 use scheme_data::{Datum, OutOfMemory, Place, Stack, Text, has_type, typed_name};
@@ -88,18 +89,12 @@ struct Pair {
 fn pair_of(binding: Datum) -> Option<Pair>
     ensures { PairAs (form binding) result }
 {
-    let Datum::List(_, mut pair) = binding else {
-        return None;
-    };
-    let Some(value) = pair.pop() else {
-        return None;
-    };
-    let Some(name) = pair.pop() else {
-        return None;
-    };
-    if !pair.is_empty() {
+    let mut pair = items_of(binding)?;
+    if pair.len() != 2 {
         return None;
     }
+    let value = pair.remove(1);
+    let name = pair.remove(0);
     Some(Pair { name, value })
 }
 

@@ -1,7 +1,7 @@
 ghost use Rattle.std.specs.Prelude.{◌≡◌, ◌++◌, IfOk, OnOk, MatchOption, Some, None, codes};
 ghost use Rattle.scheme_data.specs.Forms.{form, symbol, form_says};
 ghost use Rattle.core_forms.specs.Scope.{sure};
-ghost use Rattle.core_forms.specs.Table.{two, three, core};
+ghost use Rattle.core_forms.specs.Table.{two, core};
 ghost use Rattle.core_forms.specs.Code.{data_of, items_in};
 
 use scheme_data::{Datum, OutOfMemory, Place, Stack, Text};
@@ -34,16 +34,6 @@ pub fn two(alloc: Global, at: Place, a: Datum, b: Datum) -> Result<Datum, AllocE
     let mut items = Items::new(alloc);
     items.push(a)?;
     items.push(b)?;
-    Ok(Datum::List(at, items))
-}
-
-pub fn three(alloc: Global, at: Place, a: Datum, b: Datum, c: Datum) -> Result<Datum, AllocError>
-    ensures { IfOk result (λ d. form d ≡ three at (form a) (form b) (form c)) }
-{
-    let mut items = Items::new(alloc);
-    items.push(a)?;
-    items.push(b)?;
-    items.push(c)?;
     Ok(Datum::List(at, items))
 }
 

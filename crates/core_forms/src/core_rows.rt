@@ -93,13 +93,13 @@ fn quote(at: Place, forms: Stack<Datum>) -> Result<Made, ExpandErr>
     ensures { (n : AnyCounts) → MakesAs (core_turn n at Quote (data_of forms)) result n }
 {
     let mut forms = forms;
-    let Some(datum) = forms.pop() else {
-        return Err(ExpandErr::Form(at));
-    };
-    if !forms.is_empty() {
+    if forms.len() != 1 {
         return Err(ExpandErr::Form(at));
     }
-    Ok(Made::Quoted(at, datum))
+    match forms.pop() {
+        Some(datum) => Ok(Made::Quoted(at, datum)),
+        None => Err(ExpandErr::Form(at)),
+    }
 }
 
 /// A condition, with one arm or both.

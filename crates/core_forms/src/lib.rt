@@ -15,8 +15,7 @@ mod work;
 pub use assembling::assemble;
 pub use binders::{Bindings, Types, binder_of, binders_of, bindings_of};
 pub use build::{
-    CORE_MARK, FIRST_NEW, core, items_of, listed, new_name, put_in_front, says, stacked, sure,
-    three, two,
+    CORE_MARK, FIRST_NEW, core, items_of, listed, new_name, put_in_front, says, stacked, sure, two,
 };
 pub use core_form::{Binder, Core, CoreExpr, CoreTop};
 pub use core_rows::{core_turn, one_part, raws_node};

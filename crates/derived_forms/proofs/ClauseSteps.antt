@@ -1,14 +1,14 @@
 -- The helpers of the rows, case by case.
-use Rattle.std.proofs.Common.{◌≡◌, ◌↔◌, ℕ, ◌+◌, ◌<◌, ◌≤◌, ℤ, Bool, true, false, IsTrue, List, [], ◌∷◌, ◌++◌, map, length, remove, slice_get, slice_index_or, Option, Some, None, Result, Ok, Err, refl, sym, ap, ◌∙◌, subst, append_assoc, append-nil, arith, rules}
+use Rattle.std.proofs.Common.{◌≡◌, ◌↔◌, ◌<◌, ◌≤◌, Bool, true, false, IsTrue, List, [], ◌∷◌, ◌++◌, length, remove, slice_get, slice_index_or, Some, refl, sym, ap, ◌∙◌, subst, append_assoc, append-nil, arith, rules}
 use Rattle.std.specs.Prelude.{codes, ◌&&◌}
 use Rattle.std.specs.List.{list_all}
 use Rattle.scheme_data.specs.declared.datum.Place.{Place}
 use Rattle.scheme_data.specs.declared.datum.Datum.{Datum}
 use Rattle.scheme_data.specs.declared.datum.Datum as datum
 use Rattle.scheme_data.specs.declared.datum.Datum.TheViews as views
-use Rattle.scheme_data.specs.Forms.{Form, Forms, form, forms, number, character, truth, unspecified, atom, symbol, listed, dotted, vector, end, next, join, form_says}
+use Rattle.scheme_data.specs.Forms.{Form, Forms, form, truth, unspecified, atom, symbol, listed, dotted, vector, end, next, join, form_says}
 use Rattle.core_forms.specs.Scope.{sure}
-use Rattle.core_forms.specs.Table.{Clause, no_clause, otherwise, otherwise_of, test, passes, acts, clause_of, clause_with, is_case_datum, are_case_data, is_last, are_clauses, core, three, same_as}
+use Rattle.core_forms.specs.Table.{Clause, no_clause, otherwise, otherwise_of, test, passes, acts, clause_of, clause_with, is_case_datum, are_case_data, is_last, are_clauses, same_as}
 use Rattle.core_forms.specs.Code.{data_of}
 use Rattle.core_forms.proofs.Views.{form-List, join_last}
 use Rattle.derived_forms.specs.Clauses.{is_passing, may_stand, is_last_else, begins_clause, test_of, is_clause_of, is_clause, AreClauses, AreNoClauses}

@@ -1,4 +1,5 @@
 pub mod ClauseSteps
+pub mod NamedForms
 pub mod RowSteps
 pub mod LoopForms
 pub mod NamedLets

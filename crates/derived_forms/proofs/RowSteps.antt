@@ -1,11 +1,10 @@
 -- The rows of the table, case by case.
-use Rattle.std.proofs.Common.{◌≡◌, ◌↔◌, ℕ, ◌+◌, Bool, true, false, IsTrue, List, [], ◌∷◌, ◌++◌, map, Option, Some, None, Result, Ok, Err, slice_get, refl, sym, ap, ◌∙◌, subst, rules}
+use Rattle.std.proofs.Common.{◌≡◌, Bool, true, false, List, [], ◌∷◌, Some, None, Result, Ok, Err, slice_get, refl, sym, ap, ◌∙◌, subst}
 use Rattle.std.specs.Prelude.{codes}
 use Rattle.scheme_data.specs.declared.datum.Place.{Place}
 use Rattle.scheme_data.specs.declared.datum.Datum.{Datum}
-use Rattle.scheme_data.specs.declared.datum.Datum as datum
 use Rattle.scheme_data.specs.declared.datum.Datum.TheViews as views
-use Rattle.scheme_data.specs.Forms.{Form, Forms, form, truth, unspecified, atom, symbol, listed, dotted, vector, end, next}
+use Rattle.scheme_data.specs.Forms.{Form, Forms, form, atom, symbol, listed, dotted, vector, end, next}
 use Rattle.core_forms.specs.Table.{Row, means, wrong, derived, as_it_is, Clause, otherwise, cond_row, are_clauses, same_as, core, core_if, core_begin}
 use Rattle.core_forms.specs.Table as table
 use Rattle.core_forms.specs.Code.{data_of, items_in}
@@ -17,13 +16,12 @@ use Rattle.core_forms.specs.declared.error.ExpandErr.{ExpandErr}
 use Rattle.core_forms.specs.declared.error.ExpandErr.TheVariants as fault
 use Rattle.core_forms.specs.declared.work.Open.{Open}
 use Rattle.core_forms.specs.declared.work.Open.TheVariants as open_form
-use Rattle.derived_forms.specs.Clauses.{kept_row, Parts, parts, parts_of, the_clause, is_symbol, case_row, case_form, clauses_row, clause_row, clause_form, ClausesAs, AreClauses, AreNoClauses, IsBound, meant}
+use Rattle.derived_forms.specs.Clauses.{kept_row, parts, parts_of, is_symbol, case_row, case_form, clauses_row, clause_row, clause_form, ClausesAs, AreClauses, meant}
 use Rattle.derived_forms.specs.Rows.{begins_with_symbol, IsCore, DerivedAs}
 use Rattle.derived_forms.specs.declared.derived.Derived.{Derived}
-use Rattle.core_forms.specs.declared.work.Bound.{Bound}
 use Rattle.core_forms.specs.Names.{with_names}
 use Rattle.core_forms.specs.Scope.{clauses_word}
-use Rattle.derived_forms.proofs.ClauseSteps.{form-Bool, form-Unspec, list_form, list_parts}
+use Rattle.derived_forms.proofs.ClauseSteps.{list_form}
 
 -- `and` -----------------------------------------------------------------------------------
 
@@ -119,12 +117,9 @@ case_refused n at k ds fault.Memory h = tt
 case_of : (n : Counts) (at : Place) (k : Form) (cs : Forms) → are_clauses cs ≡ true → case_row n at k cs ≡ means (with_names n 1) (case_form at (table.t n at) (table.t n at) k cs)
 case_of n at k cs h = rw h refl
 
-pub case_made : (n : Counts) (at : Place) (k : Datum) (ds items : List Datum) (b : Bound) (after : Counts) (o : Open) → AreClauses ds items → IsBound n at k b after
-    → open_of o ≡ case_form at (form b.binder) (form b.name) (form b.value) (data_of items) → case_row n at (form k) (data_of ds) ≡ means after (open_of o)
-case_made n at k ds items b after o h g e = case_of n at (form k) (data_of ds) h.are ∙ sym (ap (λ (m : Counts). means m (open_of o)) g.counted ∙ ap (means (with_names n 1)) (e
-    ∙ ap (λ (x : Form). case_form at x (form b.name) (form b.value) (data_of items)) g.binder
-    ∙ ap (λ (x : Form). case_form at (table.t n at) x (form b.value) (data_of items)) g.name
-    ∙ ap (λ (v : Datum). case_form at (table.t n at) (table.t n at) (form v) (data_of items)) g.same
+pub case_made : (n : Counts) (at : Place) (k : Datum) (ds items : List Datum) (after : Counts) (o : Open) → AreClauses ds items → open_of o ≡ case_form at (table.t n at) (table.t n at) (form k) (data_of items) → after ≡ with_names n 1
+    → case_row n at (form k) (data_of ds) ≡ means after (open_of o)
+case_made n at k ds items after o h e g = case_of n at (form k) (data_of ds) h.are ∙ sym (ap (λ (m : Counts). means m (open_of o)) g ∙ ap (means (with_names n 1)) (e
     ∙ ap (λ (cs : List Datum). case_form at (table.t n at) (table.t n at) (form k) (data_of cs)) h.same))
 
 -- The clauses of a `case` -----------------------------------------------------------------

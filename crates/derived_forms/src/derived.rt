@@ -2,9 +2,11 @@
 
 ghost use Rattle.std.specs.Prelude.{◌≡◌, IfOk, codes};
 ghost use Rattle.std.specs.List.{list_all};
-ghost use Rattle.scheme_data.specs.Forms.{form, listed, next};
+ghost use Rattle.scheme_data.specs.Forms.{form, symbol, listed, end, next, join};
 ghost use Rattle.scheme_data.specs.declared.datum.Place.{Place as AnyPlace};
-ghost use Rattle.core_forms.specs.Table.{means, derived, clause_of, clause_with, is_case_datum, cond_row, core, core_begin, same_as};
+ghost use Rattle.core_forms.specs.Table.{means, derived, clause_of, clause_with, is_case_datum, cond_row, core, core_begin, same_as, t};
+ghost use Rattle.core_forms.specs.Scope.{clauses_word};
+ghost use Rattle.core_forms.specs.Names.{with_names};
 ghost use Rattle.core_forms.specs.Code.{data_of, OkOrMemory};
 ghost use Rattle.core_forms.specs.Working.{open_of, MeansAs};
 ghost use Rattle.derived_forms.specs.Clauses.{cond_clause, is_passing, may_stand, is_last_else, begins_clause, test_of, the_clause, case_row, case_form, clauses_row, clause_row, clause_form, is_symbol, is_clause, is_clause_of, ClausesAs, IsBound, kept_row, passed_row, PartsAs, meant};
@@ -15,7 +17,6 @@ ghost use Rattle.core_forms.specs.declared.words.Keyword.TheVariants.{Let, LetSt
 use crate::loops::{named_let, repeated};
 use core_forms::{
     Bound, Counts, ExpandErr, Keyword, Open, core, items_of, listed, new_name, says, stacked, sure,
-    three, two,
 };
 use scheme_data::{Datum, OutOfMemory, Place, Stack};
 use sqlite_items::Items;
@@ -156,10 +157,12 @@ fn is_last_else(head: &Datum, last: bool) -> bool
 fn is_equal(alloc: Global, at: Place, key: &Datum, datum: Datum) -> Result<Datum, OutOfMemory>
     ensures { IfOk result (λ d. form d ≡ test_of at (form key.now) (form datum)) }
 {
-    let quoted = two(alloc, at, sure(alloc, at, b"quote")?, datum)?;
-    let eqv = sure(alloc, at, b"eqv?")?;
-    let key = key.copy(alloc)?;
-    Ok(three(alloc, at, eqv, key, quoted)?)
+    let mut behind = Items::new(alloc);
+    behind.push(datum)?;
+    let mut parts = Items::new(alloc);
+    parts.push(key.copy(alloc)?)?;
+    parts.push(core(alloc, at, b"quote", behind)?)?;
+    core(alloc, at, b"eqv?", parts)
 }
 
 /// `(or (eqv? key 'd) ...)`
@@ -310,15 +313,26 @@ pub fn let_star(
     }
 }
 
-/// A new name for a value.
-fn new_bound(alloc: Global, n: &mut Counts, at: Place, value: Datum) -> Result<Bound, ExpandErr>
-    ensures { OkOrMemory result (λ b. IsBound n.old at value b n.new) }
+/// A new name for a value, which is also put behind the forms that use it.
+fn new_bound(
+    alloc: Global,
+    n: &mut Counts,
+    at: Place,
+    value: Datum,
+    uses: &mut Items<Datum>,
+) -> Result<Bound, ExpandErr>
+    ensures bound { OkOrMemory result (λ b. IsBound n.old at value b n.new) }
+    ensures used { OkOrMemory result (λ _. data_of uses.new ≡ join (data_of uses.old) (next (t n.old at) end)) }
 {
+    let mut parts = Items::new(alloc);
+    parts.push(value)?;
     let mark = n.take_names(1)?;
+    uses.push(new_name(alloc, at, mark)?)?;
+    parts.push(new_name(alloc, at, mark)?)?;
     Ok(Bound {
         binder: new_name(alloc, at, mark)?,
-        name: new_name(alloc, at, mark)?,
-        value,
+        name: parts.remove(1),
+        value: parts.remove(0),
     })
 }
 
@@ -386,8 +400,9 @@ fn kept(
 ) -> Result<Open, ExpandErr>
     ensures { MeansAs (kept_row n.old at value keyword forms) at n.old result n.new }
 {
-    let bound = new_bound(alloc, n, at, value)?;
-    let name = bound.name.copy(alloc)?;
+    let mut uses = Items::new(alloc);
+    let bound = new_bound(alloc, n, at, value, &mut uses)?;
+    let name = uses.remove(0);
     Ok(Open::Kept(at, bound, name, keyword, forms))
 }
 
@@ -402,9 +417,10 @@ fn passed(
 ) -> Result<Open, ExpandErr>
     ensures { MeansAs (passed_row n.old at value receiver forms) at n.old result n.new }
 {
-    let bound = new_bound(alloc, n, at, value)?;
-    let name = bound.name.copy(alloc)?;
-    let call = two(alloc, at, receiver, name)?;
+    let mut call = Items::new(alloc);
+    call.push(receiver)?;
+    let bound = new_bound(alloc, n, at, value, &mut call)?;
+    let call = Datum::List(at, call);
     Ok(Open::Kept(at, bound, call, Keyword::Cond, forms))
 }
 
@@ -432,8 +448,8 @@ fn case_with(
     match case_clauses(alloc, at, forms) {
         Err(error) => Err(error),
         Ok(clauses) => {
-            let bound = new_bound(alloc, n, at, key)?;
-            Ok(case_form(alloc, at, bound, clauses)?)
+            let open = case_form(alloc, n, at, key, clauses)?;
+            Ok(open)
         }
     }
 }
@@ -441,25 +457,40 @@ fn case_with(
 /// `(let ((t k)) (case clauses t c ...))`
 fn case_form(
     alloc: Global,
+    n: &mut Counts,
     at: Place,
-    bound: Bound,
+    key: Datum,
+    clauses: Items<Datum>,
+) -> Result<Open, ExpandErr>
+    ensures meant { OkOrMemory result (λ o. open_of o ≡ case_form at (t n.old at) (t n.old at) (form key) (data_of clauses)) }
+    ensures counted { OkOrMemory result (λ _. n.new ≡ with_names n.old 1) }
+{
+    let mut pair = Stack::new(alloc);
+    pair.push(key)?;
+    let mark = n.take_names(1)?;
+    pair.push(new_name(alloc, at, mark)?)?;
+    let open = case_of(alloc, at, mark, pair, clauses)?;
+    Ok(open)
+}
+
+/// The form of a `case` from the new name's mark, and the name with the key.
+fn case_of(
+    alloc: Global,
+    at: Place,
+    mark: u32,
+    pair: Stack<Datum>,
     clauses: Items<Datum>,
 ) -> Result<Open, OutOfMemory>
-    ensures { IfOk result (λ o. open_of o ≡ case_form at (form bound.binder) (form bound.name) (form bound.value) (data_of clauses)) }
+    ensures { IfOk result (λ o. open_of o ≡ core at (codes "let") (next (listed at (next (listed at (data_of pair)) end)) (next (core at clauses_word (next (symbol at (codes "t") mark) (data_of clauses))) end))) }
 {
-    let Bound {
-        binder,
-        name,
-        value,
-    } = bound;
-    let mut behind = Items::new(alloc);
-    behind.push(name)?;
-    behind.append(clauses)?;
-    let body = core(alloc, at, b"case clauses", behind)?;
+    let pair = listed(alloc, pair)?;
     let mut bindings = Items::new(alloc);
-    bindings.push(two(alloc, at, binder, value)?)?;
+    bindings.push(Datum::List(at, pair))?;
+    let mut behind = Items::new(alloc);
+    behind.push(new_name(alloc, at, mark)?)?;
+    behind.append(clauses)?;
     let mut all = Stack::new(alloc);
-    all.push(body)?;
+    all.push(core(alloc, at, b"case clauses", behind)?)?;
     all.push(Datum::List(at, bindings))?;
     Ok(Open::Row(at, Keyword::Let, all))
 }

@@ -48,10 +48,13 @@ impl NewNames {
         ensures bound { OkOrMemory result (λ _. data_of self.new.bindings ≡ join (data_of self.old.bindings) (next (two at (new_name at n.old 0) (form value)) end)) }
         ensures counted { OkOrMemory result (λ _. n.new ≡ with_names n.old 1) }
     {
+        let mut pair = Stack::new(alloc);
+        pair.push(value)?;
         let mark = n.take_names(1)?;
         self.names.push(new_name(alloc, at, mark)?)?;
-        let name = new_name(alloc, at, mark)?;
-        self.bindings.push(two(alloc, at, name, value)?)?;
+        pair.push(new_name(alloc, at, mark)?)?;
+        let pair = listed(alloc, pair)?;
+        self.bindings.push(Datum::List(at, pair))?;
         Ok(())
     }
 }
@@ -360,32 +363,24 @@ struct DoParts {
 }
 
 /// The parts, where the first two forms are lists and the second isn't empty.
-fn do_parts(alloc: Global, forms: Stack<Datum>) -> Result<Option<DoParts>, OutOfMemory>
-    ensures { IfOk result (λ p. option_map do_view p ≡ do_parts (data_of forms)) }
+fn do_parts(forms: Stack<Datum>) -> Option<DoParts>
+    ensures { option_map do_view result ≡ do_parts (data_of forms) }
 {
     let mut forms = forms;
-    let Some(first) = forms.pop() else {
-        return Ok(None);
-    };
-    let Some(second) = forms.pop() else {
-        return Ok(None);
-    };
-    let Some(header) = items_of(first) else {
-        return Ok(None);
-    };
-    let Some(ending) = items_of(second) else {
-        return Ok(None);
-    };
-    let mut ending = stacked(alloc, ending)?;
-    let Some(test) = ending.pop() else {
-        return Ok(None);
-    };
-    Ok(Some(DoParts {
+    let first = forms.pop()?;
+    let header = items_of(first)?;
+    let second = forms.pop()?;
+    let mut ending = items_of(second)?;
+    if ending.is_empty() {
+        return None;
+    }
+    let test = ending.remove(0);
+    Some(DoParts {
         header,
         test,
-        ending: listed(alloc, ending)?,
+        ending,
         body: forms,
-    }))
+    })
 }
 
 /// `(begin b ... (t s ...))`
@@ -430,7 +425,7 @@ pub(crate) fn repeated(
 ) -> Result<Open, ExpandErr>
     ensures { MeansAs (derived n.old at Do (data_of forms)) at n.old result n.new }
 {
-    let Some(parts) = do_parts(alloc, forms)? else {
+    let Some(parts) = do_parts(forms) else {
         return Err(ExpandErr::Form(at));
     };
     let DoParts {

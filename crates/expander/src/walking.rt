@@ -115,13 +115,13 @@ fn variable_node(
 ) -> Result<Node, ExpandErr>
     ensures { OkOrMemory result (λ n. IsVariable n at binder (open_of value) (data_of forms)) }
 {
-    let mut binders = Items::new(alloc);
-    binders.push(binder)?;
     let mut outer = Stack::new(alloc);
     outer.push(Part {
         lists: Lists::Three,
         work: Work::Raw(value),
     })?;
+    let mut binders = Items::new(alloc);
+    binders.push(binder)?;
     Ok(Node {
         at,
         kind: Kind::Let(binders),

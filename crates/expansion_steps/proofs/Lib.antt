@@ -4,3 +4,4 @@ pub mod Turns
 pub mod Decisions
 pub mod Definings
 pub mod Values
+mod Pieces

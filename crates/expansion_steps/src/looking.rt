@@ -404,6 +404,8 @@ pub fn settle(
             Err(e) => return Err(e),
         }
     }
+    // One call: left to the end of the function, each kind of form would be a case of its proof.
+    drop(value);
     Err(ExpandErr::Memory)
 }
 

@@ -1,6 +1,6 @@
 // One replacement of a form.
 
-ghost use Rattle.std.specs.Prelude.{◌≡◌, ◌∷◌, IfOk, OnOk, codes, true};
+ghost use Rattle.std.specs.Prelude.{◌≡◌, [], ◌∷◌, IfOk, OnOk, codes, true};
 ghost use Rattle.scheme_data.specs.Forms.{Forms, form, listed, end, next};
 ghost use Rattle.core_forms.specs.Mid.{body};
 ghost use Rattle.core_forms.specs.Names.{binders_of};
@@ -10,6 +10,7 @@ ghost use Rattle.core_forms.specs.Code.{data_of, spelling};
 ghost use Rattle.core_forms.specs.Working.{open_of, work_mid, parts_turn, MakesAs, TurnsAs};
 ghost use Rattle.core_forms.specs.declared.counting.Counts.{Counts as AnyCounts};
 ghost use Rattle.core_forms.specs.declared.words.Keyword.TheVariants.{If, Let};
+ghost use Rattle.core_forms.specs.declared.work.Lists.TheVariants.{One};
 ghost use Rattle.core_forms.specs.declared.work.Work.TheVariants.{Raw};
 ghost use Rattle.expansion_steps.specs.Heads.{macros_of};
 ghost use Rattle.expansion_steps.specs.Parts.{IsBehind};
@@ -66,6 +67,16 @@ fn plain(alloc: Global, datum: Datum) -> Result<Made, ExpandErr>
     }
 }
 
+/// The two arms of a condition.
+fn arms(alloc: Global, second: Open, third: Open) -> Result<Stack<Part>, OutOfMemory>
+    ensures { IfOk result (λ parts. parts ≡ record { lists = One; work = Raw second } ∷ record { lists = One; work = Raw third } ∷ []) }
+{
+    let mut parts = Stack::new(alloc);
+    push_raw(&mut parts, Lists::One, third)?;
+    push_raw(&mut parts, Lists::One, second)?;
+    Ok(parts)
+}
+
 /// A condition with both arms.
 fn choice(
     alloc: Global,
@@ -76,9 +87,7 @@ fn choice(
 ) -> Result<Made, ExpandErr>
     ensures { (n : AnyCounts) → MakesAs (core_turn n at If (next (form first) (next (open_of second) (next (open_of third) end)))) result n }
 {
-    let mut outer = Stack::new(alloc);
-    push_raw(&mut outer, Lists::One, third)?;
-    push_raw(&mut outer, Lists::One, second)?;
+    let mut outer = arms(alloc, second, third)?;
     push_raw(&mut outer, Lists::One, Open::Datum(first))?;
     Ok(Made::Node(Node {
         at,

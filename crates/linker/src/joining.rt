@@ -164,11 +164,10 @@ fn push_initializers(
 fn push_run(alloc: Global, body: &mut List<Piece>, function: Text) -> Result<(), OutOfMemory>
     ensures { OnOk result (body.new ≡ body.old ++ pieces (call_main function) []) }
 {
-    let fetch = call_alone(alloc, Callee::Op(Op::Args));
+    body.push(assignment(alloc, FIRST, call_alone(alloc, Callee::Op(Op::Args)))?)?;
     let run = call_with(alloc, Callee::Fun(function), FIRST)?;
-    let status = call_with(alloc, Callee::Op(Op::Status), SECOND)?;
-    body.push(assignment(alloc, FIRST, fetch)?)?;
     body.push(assignment(alloc, SECOND, run)?)?;
+    let status = call_with(alloc, Callee::Op(Op::Status), SECOND)?;
     body.push(Piece::Return(CExpr::Call(status)))?;
     Ok(())
 }

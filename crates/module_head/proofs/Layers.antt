@@ -1,13 +1,18 @@
 -- Data by their parts.
-use Rattle.std.proofs.Common.{◌≡◌, ◌≢◌, ℕ, ◌-◌, ◌<◌, ◌≤◌, List, [], ◌∷◌, length, take, drop, get_or, Some, None, refl, ap, ◌∙◌, sym, arith}
+use Rattle.std.proofs.Common.{◌≡◌, ◌≢◌, ℕ, ◌-◌, ◌<◌, ◌≤◌, List, [], ◌∷◌, length, take, drop, get_or, Some, None, refl, ap, ◌∙◌, sym, arith, rules}
 use Rattle.std.proofs.lemmas.List.{take_all, length-drop}
 use Rattle.scheme_data.specs.Forms.{Form, Forms, atom, symbol, listed, dotted, vector, form, form_place, next}
 use Rattle.scheme_data.specs.declared.datum.Place.{Place}
 use Rattle.scheme_data.specs.declared.datum.Datum.{Datum}
+use Rattle.scheme_data.specs.declared.datum.Datum as data_of
+use Rattle.scheme_data.specs.declared.datum.Datum.TheVariants as datum
 use Rattle.prim_table.specs.declared.types.Ty.{Ty}
 use Rattle.module_head.specs.declared.head.Param.{Param}
 use Rattle.module_head.specs.Heads.{only_name, binder, types_in, string_of, extern_of, extern_item, wrong_at_first, header, module_of}
 use Rattle.module_head.specs.Shapes.{forms_of, parts_of}
+
+pub string_here : (at : Place) (s : List ℕ) → string_of (form (datum.Str at s)) ≡ Some s
+string_here at s = search (rules, data_of.the_lemmas)
 
 pub listed_is : (d : Form) (ds : Forms) → Some ds ≡ parts_of d → d ≡ listed (form_place d) ds
 listed_is (atom at a) ds e = absurd (cc)

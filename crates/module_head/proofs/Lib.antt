@@ -4,4 +4,5 @@ pub mod ClauseSteps
 pub mod Imports
 pub mod Layers
 pub mod RightHeads
+pub mod Takings
 pub mod Worked

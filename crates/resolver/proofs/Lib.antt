@@ -1,5 +1,6 @@
 pub mod Adding
 pub mod Agreements
+pub mod Beginnings
 pub mod Behind
 pub mod Calls
 pub mod DefinedForms
@@ -18,9 +19,11 @@ pub mod InterfaceTables
 pub mod ItemParts
 pub mod Layers
 pub mod Lists
+pub mod NamedParts
 pub mod Numbers
 pub mod Results
 pub mod Sources
+pub mod Symbols
 pub mod Tables
 pub mod TypedNames
 pub mod UseLists

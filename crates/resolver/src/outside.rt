@@ -1,9 +1,11 @@
 // The names of other modules' functions that a module calls.
-ghost use Rattle.std.specs.Prelude.{◌≡◌, [], map, IfOk};
+ghost use Rattle.std.specs.Prelude.{◌≡◌, ◌&&◌, not, [], map, IfOk};
 ghost use Rattle.scheme_data.specs.Names.{is_same};
 ghost use Rattle.scheme_data.specs.Data.{plain, plain_all};
 ghost use Rattle.resolver.specs.BuiltHeads.{symbol_of};
+ghost use Rattle.name_table.specs.Names.{has_name};
 ghost use Rattle.resolver.specs.Trees.{import_tree};
+ghost use Rattle.resolver.specs.Names.{is_special};
 ghost use Rattle.resolver.specs.Drafts.{imported_names, is_outside, outside_name, outside_in, outside_in_all, outside_in_tops};
 ghost use Rattle.resolver.specs.Parts.{top_of, with_first, outside_in_top};
 
@@ -25,14 +27,25 @@ struct Outside<'a> {
 }
 
 impl Outside<'_> {
+    /// Whether a name is neither a parameter's nor the word of a special form.
+    fn is_free(&self, name: &[u8]) -> bool
+        ensures { result ≡ (not (has_name self.now.params.now name.now) && not (is_special name.now)) }
+    {
+        !self.params.contains(name) && !names_special_form(name)
+    }
+
+    /// Whether a name is imported and not that of a function of the module.
+    fn is_imported(&self, name: &[u8]) -> bool
+        ensures { result ≡ (not (has_name self.now.functions.now name.now) && has_name self.now.imported.now name.now) }
+    {
+        !self.functions.contains(name) && self.imported.contains(name)
+    }
+
     /// Whether a name that stands first in a form is that of another module's function.
     fn has(&self, name: &[u8]) -> bool
         ensures { result ≡ is_outside self.now.imported.now self.now.functions.now self.now.params.now name.now }
     {
-        !self.params.contains(name)
-            && !names_special_form(name)
-            && !self.functions.contains(name)
-            && self.imported.contains(name)
+        self.is_free(name) && self.is_imported(name)
     }
 
     /// Puts what stands first in a form at the end of a table, where it is such a name and isn't there yet.

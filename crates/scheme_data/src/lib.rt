@@ -20,6 +20,3 @@ pub use stack::Stack;
 pub use symbol::{has_symbol_form, is_digit, is_dot, is_symbol, is_symbol_byte, symbol_len};
 pub use text::{OutOfMemory, Text};
 pub use typing::{TypedName, has_type, typed_name};
-
-#[cfg(test)]
-mod tests;

@@ -8,6 +8,3 @@ mod reader;
 
 pub use error::ReadErr;
 pub use read::read_all;
-
-#[cfg(test)]
-mod tests;

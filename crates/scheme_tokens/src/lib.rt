@@ -11,6 +11,3 @@ mod words;
 
 pub use lex::{Lexeme, lexeme_at};
 pub use token::{Atom, Token, Word};
-
-#[cfg(test)]
-mod tests;

@@ -4,7 +4,11 @@ use Rattle.scheme_data.specs.Forms.{Form, Forms, form, forms, listed, dotted, ve
 use Rattle.scheme_data.specs.declared.datum.Place.{Place}
 use Rattle.scheme_data.specs.declared.datum.Datum.{Datum}
 use Rattle.scheme_data.specs.declared.datum.Datum.TheViews as datum
-use Rattle.syntax_rules.specs.Filling.{item, count, element, length_of}
+use Rattle.syntax_rules.specs.Filling.{item, count, element, length_of, part}
+use Rattle.syntax_rules.specs.Trees.{Path}
+use Rattle.syntax_rules.specs.declared.tree.Step.TheVariants.{Row}
+use Rattle.scheme_data.specs.declared.datum.Datum as data_of
+use Rattle.syntax_rules.proofs.Atoms.{no_list}
 use Rattle.syntax_rules.proofs.Layers.{form-List}
 
 item_there : (ds : List Datum) (i : ℕ) (other : Form) (d : Datum) → Some d ≡ slice_get ds i → form d ≡ item (forms (map form ds)) i other
@@ -28,6 +32,9 @@ found_element at ds i d e = rw (form-List at ds) (item_there ds i (listed at (fo
 pub missing_element : (at : Place) (ds : List Datum) (i : ℕ) → ◌≡◌ {A = Option Datum} None (slice_get ds i) → form (datum.List at ds) ≡ element (form (datum.List at ds)) i
 missing_element at ds i e = rw (form-List at ds) (item_missing ds i (listed at (forms (map form ds))) (none_there ds i e))
 
+pub no_list_element : (d : Datum) (i : ℕ) → ((at : Place) (ds : List Datum) → d ≡ data_of.List at ds → ⊥) → form d ≡ element (form d) i
+no_list_element d i h = no_list (λ f. f ≡ element f i) (λ _ _. refl) (λ _ _ _. refl) (λ _ _. refl) (λ _ _ _. refl) d h
+
 count_all : (ds : List Datum) → length ds ≡ count (forms (map form ds))
 count_all [] = refl
 count_all (d ∷ ds) = ap suc (count_all ds)
@@ -46,3 +53,11 @@ element_behind_all (atom at a) i h = refl
 element_behind_all (symbol at x m) i h = refl
 element_behind_all (dotted at ds d) i h = refl
 element_behind_all (vector at ds) i h = refl
+
+pub part_end : (d : Form) (ss : Path) (rows : List ℕ) → length ss ≡ 0 → d ≡ part d ss rows
+part_end d [] rows h = refl
+part_end d (s ∷ ss) rows h = absurd (omega arith)
+
+pub part_no_rows : (d : Form) (ss : Path) (rows : List ℕ) (i : ℕ) → length rows ≡ 0 → d ≡ part d (Row i ∷ ss) rows
+part_no_rows d ss [] i h = refl
+part_no_rows d ss (r ∷ rows) i h = absurd (omega arith)

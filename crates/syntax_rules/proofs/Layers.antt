@@ -44,3 +44,12 @@ template-Compound ts = search (rules, templates_of.the_lemmas)
 
 pub template-Repeated : (ns : List ℕ) (t : Template) → the_template (template.Repeated ns t) ≡ tree.repeated ns (the_template t)
 template-Repeated ns t = search (rules, templates_of.the_lemmas)
+
+pub template-Given : (i : ℕ) → the_template (templates_of.Given i) ≡ tree.given i
+template-Given i = search (rules, templates_of.the_lemmas)
+
+pub template-Fresh : (x : List ℕ) → the_template (templates_of.Fresh x) ≡ tree.fresh x
+template-Fresh x = search (rules, templates_of.the_lemmas)
+
+pub template-Constant : (a : Constant) → the_template (templates_of.Constant a) ≡ tree.fixed (atom_of a)
+template-Constant a = search (rules, templates_of.the_lemmas)

@@ -2,12 +2,15 @@ pub mod Apart
 pub mod Dots
 pub mod Elements
 pub mod InStep
+pub mod Atoms
 pub mod Layers
+pub mod Literals
 pub mod MadeRules
 pub mod Parts
 pub mod Places
 pub mod ReadLists
 pub mod Sizes
+pub mod Singles
 pub mod Texts
 pub mod Worked
 pub mod RuleParts

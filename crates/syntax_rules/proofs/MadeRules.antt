@@ -38,3 +38,7 @@ made names start table paths ways t (Some q) b p u e f g h i j k =
     ∙ ap (λ (w : List Path). Some (record { pattern = q; paths = w; template = u })) g
     ∙ made_by names paths t q u (are_apart [] names) (ap (λ (s : List (List ℕ × ℕ)). are_apart s names) (sym e) ∙ sym i ∙ j)
     (k ∙ ap (λ n. template_of n ways 0 t) f ∙ ap (λ w. template_of names w 0 t) g)
+
+pub no_pattern : (names : List (List ℕ × ℕ)) (paths : List Path) (t : Form) (o : Option Patterns) → None ≡ as_list o → None ≡ with_pattern names paths t o
+no_pattern names paths t None e = refl
+no_pattern names paths t (Some ps) e = absurd (cc)

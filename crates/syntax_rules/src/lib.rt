@@ -17,6 +17,3 @@ mod words;
 
 pub use error::RulesErr;
 pub use rules::Rules;
-
-#[cfg(test)]
-mod tests;

@@ -256,3 +256,6 @@ branches::branches-returns t c =
     (tree c.args.test.now) (tree c.args.first.now) (tree c.args.second.now) c.in_ok-chosen.chosen c.args.target
     c.in_ok-chosen.ensures c.in_ok-put.ensures c.in_ok-delivered.ensures c.in_ok-put-2.ensures c.in_ok-delivered-2.ensures closes)
     c.put-3.ensures
+
+pub branches::tested-value-requires : goal.branches::tested-value-requires
+branches::tested-value-requires t c = (omega arith, c.requires)

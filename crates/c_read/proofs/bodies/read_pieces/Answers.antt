@@ -21,8 +21,8 @@ loop-alloc-preserved c =
     let none : after_body c.loop-alloc.opens c.loop-alloc.tokens ≡ None = c.loop-alloc-test.ensures.0 in
     let spelled = c.in_ok-piece.ensures.spelled in
     record {
-      within = within_goes_on c.loop-alloc.invariant.within c.took_end.new.tokens c.read_piece.new.tokens c.in_ok-piece.piece c.push.new.self c.pass.new.opens c.loop-alloc-test.ensures.1 none c.in_ok-piece.ensures.read
-          (piece_fewer c.took_end.new.tokens c.read_piece.new.tokens c.in_ok-piece.piece spelled.0) is c.in_ok-pass.ensures;
+      within = within_goes_on c.loop-alloc.invariant.within c.took_end.new.tokens c.read_piece.new.tokens c.in_ok-piece.piece c.push.new.self c.pass-passed.new.opens c.loop-alloc-test.ensures.1 none c.in_ok-piece.ensures.read
+          (piece_fewer c.took_end.new.tokens c.read_piece.new.tokens c.in_ok-piece.piece spelled.0) is c.in_ok-passed.ensures;
       spelled = spelled_on pieces_tokens c.args.tokens.now c.loop-alloc.tokens c.took_end.new.tokens (piece_tokens c.in_ok-piece.piece c.read_piece.new.tokens) c.read_piece.new.tokens c.loop-alloc.pieces c.push.new.self c.in_ok-piece.piece
           c.loop-alloc.invariant.spelled c.loop-alloc-test.ensures.1 spelled.0 (pieces_more c.loop-alloc.pieces c.in_ok-piece.piece c.read_piece.new.tokens) is;
       named = subst NamedPieces (sym is) (named_pieces_more c.loop-alloc.pieces c.in_ok-piece.piece c.loop-alloc.invariant.named spelled.1);

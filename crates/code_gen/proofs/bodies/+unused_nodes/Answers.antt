@@ -1,4 +1,5 @@
 use Rattle.std.proofs.Common.{sym, ◌∙◌, subst, ap, map, List, Some, None, arith}
+use Rattle.std.proofs.lemmas.Result.{err_from_is_err_and}
 use Rattle.std.proofs.lemmas.Result.{on_ok_weaker}
 use Rattle.core_tree.specs.declared.tree.Node.{Node}
 use Rattle.core_tree.specs.Tree.{Tree, trees, tree}
@@ -76,3 +77,13 @@ unused_branches-returns t c =
     (tree c.args.test.now) (tree c.args.first.now) (tree c.args.second.now) c.in_ok-chosen.chosen
     c.in_ok-chosen.ensures c.in_ok-put.ensures c.in_ok-unused.ensures c.in_ok-put-2.ensures c.in_ok-unused-2.ensures closes)
     c.put-3.ensures
+
+pub unused-returns-in_err-call-in-Call : goal.unused-returns-in_err-call-in-Call
+unused-returns-in_err-call-in-Call t c =
+    let p = err_from_is_err_and c.from_residual.result c.from_residual.ensures.1 in
+    rw (p.1) tt
+
+pub unused-returns-in_err-call-in-Primitive : goal.unused-returns-in_err-call-in-Primitive
+unused-returns-in_err-call-in-Primitive t c =
+    let p = err_from_is_err_and c.from_residual-in_err-call-in-Primitive.result c.from_residual-in_err-call-in-Primitive.ensures.1 in
+    rw (p.1) tt

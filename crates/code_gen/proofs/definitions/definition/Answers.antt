@@ -1,4 +1,5 @@
 use Rattle.std.proofs.Common.{◌≡◌, refl, ◌∙◌, ap, subst}
+use Rattle.std.proofs.lemmas.Result.{err_from_is_err_and}
 use Rattle.core_tree.specs.Tree.{module_tree}
 use Rattle.c_tree.specs.Names.{label_name}
 use Rattle.plan_rules.specs.Translation.{c_name_of}
@@ -20,3 +21,28 @@ returns c =
     let written : IsLooped (setting_of m f) f.body e = subst (λ (w : Setting). IsLooped w f.body e) same c.in_ok-pieces.ensures in
     let name_is = c.in_ok-c_name.ensures ∙ ap c_name_of c.called.ensures in
     function_written m f e _ written name_is refl (c.in_ok-variables.ensures ∙ ap (words 0) params_are) refl (c.in_ok-body.ensures (loop (label_name 0) written.code done) written.is)
+
+pub returns-in_err-new : goal.returns-in_err-new
+returns-in_err-new c =
+    let p = err_from_is_err_and c.from_residual.result c.from_residual.ensures.1 in
+    rw (p.1) tt
+
+pub returns-in_err-pieces : goal.returns-in_err-pieces
+returns-in_err-pieces c =
+    let p = err_from_is_err_and c.from_residual-in_err-pieces.result c.from_residual-in_err-pieces.ensures.1 in
+    rw (p.1) tt
+
+pub returns-in_err-body : goal.returns-in_err-body
+returns-in_err-body c =
+    let p = err_from_is_err_and c.from_residual-in_err-body.result c.from_residual-in_err-body.ensures.1 in
+    rw (p.1) tt
+
+pub returns-in_err-c_name : goal.returns-in_err-c_name
+returns-in_err-c_name c =
+    let p = err_from_is_err_and c.from_residual-in_err-c_name.result c.from_residual-in_err-c_name.ensures.1 in
+    rw (p.1) tt
+
+pub returns-in_err-variables : goal.returns-in_err-variables
+returns-in_err-variables c =
+    let p = err_from_is_err_and c.from_residual-in_err-variables.result c.from_residual-in_err-variables.ensures.1 in
+    rw (p.1) tt

@@ -1,4 +1,5 @@
 use Rattle.std.proofs.Common.{◌≡◌, List, [], ◌∷◌, ◌++◌, refl, ap, ◌∙◌}
+use Rattle.std.proofs.lemmas.Result.{err_from_is_err_and}
 use Rattle.c_tree.specs.declared.tree.CAtom.TheVariants.{Unspec}
 use Rattle.c_tree.specs.declared.tree.CExpr.TheVariants.{Atom}
 use Rattle.c_tree.specs.declared.pieces.Piece.{Piece}
@@ -25,3 +26,13 @@ returns c =
       locals = c.new-2.ensures;
       code = c.in_ok-body.ensures nothing are;
     }
+
+pub returns-in_err-push : goal.returns-in_err-push
+returns-in_err-push c =
+    let p = err_from_is_err_and c.from_residual.result c.from_residual.ensures.1 in
+    rw (p.1) tt
+
+pub returns-in_err-body : goal.returns-in_err-body
+returns-in_err-body c =
+    let p = err_from_is_err_and c.from_residual-in_err-body.result c.from_residual-in_err-body.ensures.1 in
+    rw (p.1) tt

@@ -1,4 +1,5 @@
 use Rattle.std.proofs.Common.{◌≡◌, List, ◌∙◌, ap, sym, subst}
+use Rattle.std.proofs.lemmas.Result.{err_from_is_err_and}
 use Rattle.core_tree.specs.declared.tree.Module.{Module}
 use Rattle.core_tree.specs.declared.tree.Top.{Top}
 use Rattle.core_tree.specs.declared.tree.VarId.{VarId}
@@ -25,3 +26,18 @@ returns c =
     (subst (λ (ps : List VarId). AreUnused (record { in_module = m; params = ps }) s t m.forms) c.in_ok-new.ensures
     (subst (λ (ts : List Top). AreUnused (record { in_module = m; params = c.in_ok-new.field-0 }) s t (forms_in ts)) tops_are c.in_ok-forms.ensures))
     c.in_ok-deliver.ensures
+
+pub returns-in_err-new : goal.returns-in_err-new
+returns-in_err-new c =
+    let p = err_from_is_err_and c.from_residual.result c.from_residual.ensures.1 in
+    rw (p.1) tt
+
+pub returns-in_err-forms : goal.returns-in_err-forms
+returns-in_err-forms c =
+    let p = err_from_is_err_and c.from_residual-in_err-forms.result c.from_residual-in_err-forms.ensures.1 in
+    rw (p.1) tt
+
+pub returns-in_err-deliver : goal.returns-in_err-deliver
+returns-in_err-deliver c =
+    let p = err_from_is_err_and c.from_residual-in_err-deliver.result c.from_residual-in_err-deliver.ensures.1 in
+    rw (p.1) tt

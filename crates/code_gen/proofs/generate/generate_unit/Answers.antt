@@ -1,6 +1,8 @@
-use Rattle.std.proofs.Common.{◌≡◌, ap, ◌∙◌, subst}
+use Rattle.std.proofs.Common.{◌≡◌, ap, sym, ◌∙◌, subst}
+use Rattle.std.proofs.lemmas.Result.{err_from_is_err_and}
 use Rattle.core_tree.specs.declared.tree.Module.{Module}
 use Rattle.core_tree.specs.Tree.{module_tree}
+use Rattle.core_tree.specs.WellFormed.{IsWellFormed}
 use Rattle.c_tree.specs.Functions.{fun_of, items_of}
 use Rattle.c_tree.specs.Names.{maker_name}
 use Rattle.plan_rules.specs.Translation.{IsEmpty}
@@ -23,3 +25,53 @@ returns c =
     subst (λ (k : Module). AddsFunctions (module_tree k) (module_tree k).functions (declarations_of (module_tree k)) (items_of c.define_all.new.items)) c.in_ok-functions.ensures defines in
     translated_from m c.requires maker initializer made initialized (items_of c.define_all.new.items) (items_of c.push-2.new.self) adds
     (pushed_two c.define_all.new.items c.push.new.self c.push-2.new.self c.in_ok-maker.maker c.in_ok-initializer.initializer (c.in_ok-push.ensures {u = tt}).ok (c.in_ok-push-2.ensures {u = tt}).ok)
+
+pub returns-in_err-functions : goal.returns-in_err-functions
+returns-in_err-functions c =
+    let p = err_from_is_err_and c.from_residual.result c.from_residual.ensures.1 in
+    rw (p.1) tt
+
+pub returns-in_err-items : goal.returns-in_err-items
+returns-in_err-items c =
+    let p = err_from_is_err_and c.from_residual-in_err-items.result c.from_residual-in_err-items.ensures.1 in
+    rw (p.1) tt
+
+pub returns-in_err-define_all : goal.returns-in_err-define_all
+returns-in_err-define_all c =
+    let p = err_from_is_err_and c.from_residual-in_err-define_all.result c.from_residual-in_err-define_all.ensures.1 in
+    rw (p.1) tt
+
+pub returns-in_err-maker_name_text : goal.returns-in_err-maker_name_text
+returns-in_err-maker_name_text c =
+    let p = err_from_is_err_and c.from_residual-in_err-maker_name_text.result c.from_residual-in_err-maker_name_text.ensures.1 in
+    rw (p.1) tt
+
+pub returns-in_err-maker : goal.returns-in_err-maker
+returns-in_err-maker c =
+    let p = err_from_is_err_and c.from_residual-in_err-maker.result c.from_residual-in_err-maker.ensures.1 in
+    rw (p.1) tt
+
+pub returns-in_err-initializer : goal.returns-in_err-initializer
+returns-in_err-initializer c =
+    let p = err_from_is_err_and c.from_residual-in_err-initializer.result c.from_residual-in_err-initializer.ensures.1 in
+    rw (p.1) tt
+
+pub returns-in_err-push : goal.returns-in_err-push
+returns-in_err-push c =
+    let p = err_from_is_err_and c.from_residual-in_err-push.result c.from_residual-in_err-push.ensures.1 in
+    rw (p.1) tt
+
+pub returns-in_err-push-2 : goal.returns-in_err-push-2
+returns-in_err-push-2 c =
+    let p = err_from_is_err_and c.from_residual-in_err-push-2.result c.from_residual-in_err-push-2.ensures.1 in
+    rw (p.1) tt
+
+pub define_all-requires : goal.define_all-requires
+define_all-requires c =
+    let right = subst (λ (k : Module). IsWellFormed (module_tree k)) (sym c.in_ok-functions.ensures) c.requires in
+    right.functions
+
+pub initialization-requires : goal.initialization-requires
+initialization-requires c =
+    let right = subst (λ (k : Module). IsWellFormed (module_tree k)) (sym c.in_ok-functions.ensures) c.requires in
+    right.forms

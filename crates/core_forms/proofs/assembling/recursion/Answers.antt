@@ -1,5 +1,9 @@
+use Rattle.std.proofs.lemmas.Result.{err_from_is_err_and}
 use Rattle.core_forms.proofs.Trees.{letrec_parts}
 use Rattle.core_forms.proofs.assembling.recursion.Goals as goal
 
 pub returns : goal.returns
-returns c = letrec_parts c.args.at c.args.xs c.args.cs c.last.new.cs c.in_ok-b.b c.in_ok-b-2.b c.in_ok-b.ensures c.in_ok-b-2.ensures
+returns c = letrec_parts c.args.at c.args.xs c.args.cs c.last.new.cs c.in_ok-b.b c.in_ok-b.ensures
+
+pub returns-in_err-b : goal.returns-in_err-b
+returns-in_err-b c = let p = err_from_is_err_and c.from_residual.result c.from_residual.ensures.1 in rw (p.1, p.2) c.in_err-b.ensures

@@ -1,4 +1,4 @@
-use Rattle.std.proofs.Common.{◌∙◌, sym}
+use Rattle.std.proofs.Common.{◌∙◌}
 use Rattle.derived_forms.proofs.ClauseSteps.{none_are, clause_next, pushed, all_are}
 use Rattle.derived_forms.proofs.derived.case_clauses.Goals as goal
 

@@ -1,6 +1,4 @@
-use Rattle.std.proofs.Common.{◌≡◌, Bool, true, false, sym, ap, ◌∙◌}
-use Rattle.core_forms.specs.Code.{data_of}
-use Rattle.derived_forms.specs.Clauses.{is_passing}
+use Rattle.std.proofs.Common.{sym}
 use Rattle.derived_forms.proofs.ClauseSteps.{not_empty, acting, passing, same_items}
 use Rattle.derived_forms.proofs.derived.clause_with.Goals as goal
 

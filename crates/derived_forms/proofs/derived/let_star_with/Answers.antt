@@ -1,7 +1,4 @@
-use Rattle.std.proofs.Common.{◌≡◌, List, Result, ap, subst}
-use Rattle.scheme_data.specs.declared.datum.Datum.{Datum}
-use Rattle.scheme_data.specs.declared.datum.Place.{Place}
-use Rattle.derived_forms.proofs.RowSteps.{let_refused, let_listed, let_stacked}
+use Rattle.derived_forms.proofs.RowSteps.{let_refused, let_stacked}
 use Rattle.derived_forms.proofs.derived.let_star_with.Goals as goal
 
 pub returns-in-None : goal.returns-in-None

@@ -12,7 +12,7 @@ pub returns-in_default-2 : goal.returns-in_default-2
 returns-in_default-2 c =
     let p = c.in-Some.parts in
     record {
-      is = do-refused c.args.n.now c.args.at (data_of c.args.forms) (do_view p) (sym (ap (option_map do_view) c.in-Some.is) ∙ c.in_ok-parts.ensures)
+      is = do-refused c.args.n.now c.args.at (data_of c.args.forms) (do_view p) c.in-Some.ensures
           (sym (ap (option_map columns_view) c.in_default-2.is) ∙ (c.in_ok-variables.ensures ∙ ap (λ ds. columns_of (data_of ds)) c.in_ok-stacked.ensures));
       there = refl;
       same = refl;
@@ -23,7 +23,7 @@ returns-then-not-branch c =
     let p = c.in-Some.parts in
     let v = c.in-Some-2.variables in
     record {
-      is = do-doubled c.args.n.now c.args.at (data_of c.args.forms) (do_view p) (columns_view v) (sym (ap (option_map do_view) c.in-Some.is) ∙ c.in_ok-parts.ensures)
+      is = do-doubled c.args.n.now c.args.at (data_of c.args.forms) (do_view p) (columns_view v) c.in-Some.ensures
           (sym (ap (option_map columns_view) c.in-Some-2.is) ∙ (c.in_ok-variables.ensures ∙ ap (λ ds. columns_of (data_of ds)) c.in_ok-stacked.ensures))
           (sym (c.in_ok-are_distinct.ensures ∙ ap (λ ds. is_some (binders_of true (data_of ds))) c.as_slice.ensures) ∙ c.if-not-branch.true);
       there = refl;
@@ -34,7 +34,7 @@ pub returns : goal.returns
 returns c =
     let p = c.in-Some.parts in
     let v = c.in-Some-2.variables in
-    do-means c.args.n.now c.loop_of_do.new.n c.args.at (data_of c.args.forms) (do_view p) (columns_view v) (open_of c.in_ok-open.open) (sym (ap (option_map do_view) c.in-Some.is) ∙ c.in_ok-parts.ensures)
+    do-means c.args.n.now c.loop_of_do.new.n c.args.at (data_of c.args.forms) (do_view p) (columns_view v) (open_of c.in_ok-open.open) c.in-Some.ensures
     (sym (ap (option_map columns_view) c.in-Some-2.is) ∙ (c.in_ok-variables.ensures ∙ ap (λ ds. columns_of (data_of ds)) c.in_ok-stacked.ensures))
     (sym (c.in_ok-are_distinct.ensures ∙ ap (λ ds. is_some (binders_of true (data_of ds))) c.as_slice.ensures) ∙ c.if-not-branch.false)
     (body-same c.args.at (new_name c.args.at c.args.n.now 0) (open_of c.in_ok-open.open) (new_names c.args.at c.args.n.now 1 (data_of v.values)) (columns_view v) (do_view p) (form c.in_ok-ending.ending) (data_of c.in_ok-body.body)

@@ -1,4 +1,5 @@
 use Rattle.std.proofs.Common.{List, ℕ, not, [], ◌∷◌, ◌++◌, ap, ◌∙◌}
+use Rattle.std.proofs.lemmas.Result.{err_from_is_err_and}
 use Rattle.std.specs.List.{list_any}
 use Rattle.resolver.specs.BuiltHeads.{is_word}
 use Rattle.scheme_data.proofs.DistinctNames.{there, absent, inserted}
@@ -15,3 +16,8 @@ loop-export-preserved c =
     listed_more c.args.exports.now c.loop-export.names c.insert.new.self c.loop-export.export-index _ c.loop-export-test.true c.export-item.is c.loop-export.invariant
     (absent _ c.loop-export.names _ (c.in_ok-insert.ensures.added ∙ ap (λ (name : List ℕ). not (list_any (is_word name) c.loop-export.names)) c.as_bytes.ensures) c.if-not-branch.false)
     (inserted _ c.loop-export.names _ _ c.in_ok-insert.ensures.ok c.if-not-branch.false ∙ ap (λ (name : List ℕ). c.loop-export.names ++ name ∷ []) c.as_bytes.ensures)
+
+pub returns-in_err-insert : goal.returns-in_err-insert
+returns-in_err-insert c =
+    let p = err_from_is_err_and c.from_residual.result c.from_residual.ensures.1 in
+    rw (p.1) tt

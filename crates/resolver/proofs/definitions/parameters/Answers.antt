@@ -1,4 +1,5 @@
 use Rattle.std.proofs.Common.{sym, ap, ◌∙◌}
+use Rattle.std.proofs.lemmas.Result.{err_from_is_err_and}
 use Rattle.resolver.specs.Names.{is_bound_name}
 use Rattle.scheme_data.proofs.DistinctNames.{there, absent, inserted}
 use Rattle.resolver.proofs.Tables.{not_bound, read_twice, read_more}
@@ -21,3 +22,8 @@ loop-d-preserved c =
     (sym (c.may_be_bound.ensures ∙ ap is_bound_name c.as_bytes.ensures) ∙ c.if-not-may_be_bound.false)
     (absent _ c.loop-d.params _ c.in_ok-add_name.ensures.added c.if-not-branch.false)
     (inserted _ c.loop-d.params _ _ c.in_ok-add_name.ensures.ok c.if-not-branch.false)
+
+pub returns-in_err-add_name : goal.returns-in_err-add_name
+returns-in_err-add_name c =
+    let p = err_from_is_err_and c.from_residual.result c.from_residual.ensures.1 in
+    rw (p.1) tt

@@ -1,3 +1,4 @@
+use Rattle.std.proofs.lemmas.Result.{err_from_is_err_and}
 use Rattle.scheme_data.proofs.DistinctNames.{there, absent, inserted}
 use Rattle.resolver.proofs.Tables.{listed_start, listed_form, listed_twice, listed_more, listed_all}
 use Rattle.resolver.proofs.tops.function_names.Goals as goal
@@ -22,3 +23,8 @@ loop-top-preserved-in_default c =
 
 pub returns : goal.returns
 returns c = listed_all c.args.tops.now c.loop-top.names c.loop-top.top-index c.loop-top-test.false c.loop-top.invariant
+
+pub returns-in_err-add_name : goal.returns-in_err-add_name
+returns-in_err-add_name c =
+    let p = err_from_is_err_and c.from_residual.result c.from_residual.ensures.1 in
+    rw (p.1) tt

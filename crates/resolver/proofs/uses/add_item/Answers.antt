@@ -1,4 +1,5 @@
 use Rattle.std.proofs.Common.{refl}
+use Rattle.std.proofs.lemmas.Result.{err_from_is_err_and}
 use Rattle.resolver.proofs.UseLists.{name_more, names_all}
 use Rattle.resolver.proofs.uses.add_item.Goals as goal
 
@@ -13,3 +14,8 @@ loop-name-init c name = refl
 pub returns : goal.returns
 returns c =
     names_all c.args.item.now.names c.as_slice-name-items.result.now c.loop-name.name-index c.args.item.now.module_name c.args.modules.now.entries c.loop-name.modules.entries c.loop-name-test.false c.as_slice-name-items.ensures c.loop-name.invariant
+
+pub returns-in_err-insert : goal.returns-in_err-insert
+returns-in_err-insert c =
+    let p = err_from_is_err_and c.from_residual.result c.from_residual.ensures.1 in
+    rw (p.1) tt

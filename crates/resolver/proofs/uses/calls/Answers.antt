@@ -1,4 +1,5 @@
 use Rattle.std.proofs.Common.{map, ap, ◌∙◌}
+use Rattle.std.proofs.lemmas.Result.{err_from_is_err_and}
 use Rattle.std.specs.Option.{option_copied}
 use Rattle.resolver.specs.Trees.{import_tree}
 use Rattle.resolver.specs.Elaboration.{from}
@@ -24,3 +25,13 @@ loop-place-preserved c =
     (offers ∙ ap (λ r. from c.in-Some.field-0.now.now (option_copied r)) c.in-Some-row.is)
     c.in_ok-push.ensures.ok
     c.loop-place.invariant
+
+pub returns-in_err-modules : goal.returns-in_err-modules
+returns-in_err-modules c =
+    let p = err_from_is_err_and c.from_residual.result c.from_residual.ensures.1 in
+    rw (p.1) tt
+
+pub returns-in_err-push : goal.returns-in_err-push
+returns-in_err-push c =
+    let p = err_from_is_err_and c.from_residual-in_err-push.result c.from_residual-in_err-push.ensures.1 in
+    rw (p.1) tt

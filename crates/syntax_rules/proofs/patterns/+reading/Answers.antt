@@ -1,4 +1,5 @@
 use Rattle.std.proofs.Common.{◌∙◌, sym, ap, arith, map, Some, List, drop}
+use Rattle.std.proofs.lemmas.Result.{err_from_is_err_and}
 use Rattle.std.proofs.lemmas.List.{drop_all}
 use Rattle.scheme_data.specs.Forms.{form, forms}
 use Rattle.scheme_data.specs.declared.datum.Datum.{Datum}
@@ -28,3 +29,12 @@ list_pattern_of-loop-i-preserved t c =
 pub list_pattern_of-returns : goal.list_pattern_of-returns
 list_pattern_of-returns t c =
     pattern_end c.args.literals.now (forms (map form c.args.ds.now)) _ c.loop-i.front c.loop-i.invariant (ap (λ (ds : List Datum). forms (map form ds)) (drop_all c.loop-i.i c.args.ds.now (omega arith)))
+
+pub list_pattern_of-returns-in_err-p : goal.list_pattern_of-returns-in_err-p
+list_pattern_of-returns-in_err-p t c = let p = err_from_is_err_and c.from_residual.result c.from_residual.ensures.1 in rw p.1 tt
+
+pub list_pattern_of-returns-in_err-new : goal.list_pattern_of-returns-in_err-new
+list_pattern_of-returns-in_err-new t c = let p = err_from_is_err_and c.from_residual-in_err-new.result c.from_residual-in_err-new.ensures.1 in rw p.1 tt
+
+pub list_pattern_of-returns-in_err-push : goal.list_pattern_of-returns-in_err-push
+list_pattern_of-returns-in_err-push t c = let p = err_from_is_err_and c.from_residual-in_err-push.result c.from_residual-in_err-push.ensures.1 in rw p.1 tt

@@ -1,4 +1,4 @@
-use Rattle.std.proofs.Common.{ℕ, List, [], ap, sym, subst, arith}
+use Rattle.std.proofs.Common.{ℕ, ◌≤◌, List, [], refl, ap, sym, subst, arith}
 use Rattle.c_tree.specs.Functions.{items_of}
 use Rattle.c_meaning.specs.Program.{cm}
 use Rattle.c_machine.specs.declared.stepping.Frame.{Frame}
@@ -6,6 +6,10 @@ use Rattle.c_machine.specs.declared.stepping.Regs.{Regs}
 use Rattle.c_machine.specs.Steps.{config_of}
 use Rattle.c_machine.proofs.Runs.{MeansIn, begins, begun, main_within, seen_through, line_is_there, step_needs, step_goes, step_falls, step_ends, step_cannot_write, step_lacks_memory, ran_ok, ran_err}
 use Rattle.c_machine.proofs.machine.Machine.run.Goals as goal
+
+-- over two steps
+both_later : {a b d : ℕ} → a ≤ b → b ≤ d → a ≤ d
+both_later h k = omega arith
 
 pub function_at-requires : goal.function_at-requires
 function_at-requires g c =
@@ -125,3 +129,27 @@ returns-in-Memory-clause-told g c =
     let first = g.K.Sink.written c.args.out.now in
     let before = g.K.Sink.written c.steps.out in
     ran_err first (g.K.Sink.written c.step.new.out) w _ (step_lacks_memory items c.as_slice-funs.result.now c.self.inside.main d now fetched w first before c.steps.invariant.goes c.fetch-instr.result.now c.fetch-instr.new.regs.pc c.fetch-instr.ensures.line is (config_of c.step.new.regs c.step.new.stacks c.step.new.acc.value) c.step.new.acc.end (g.K.Sink.written c.step.new.out) (c.in-Memory.ensures {u = tt}).does)
+
+pub returns-in_err-stacks-clause-same : goal.returns-in_err-stacks-clause-same
+returns-in_err-stacks-clause-same g c = refl
+
+pub returns-in-Over-clause-same : goal.returns-in-Over-clause-same
+returns-in-Over-clause-same g c = refl
+
+pub returns-in-WriteFault-clause-same : goal.returns-in-WriteFault-clause-same
+returns-in-WriteFault-clause-same g c = refl
+
+pub returns-in-Memory-clause-same : goal.returns-in-Memory-clause-same
+returns-in-Memory-clause-same g c = refl
+
+pub returns-in-Over-clause-later : goal.returns-in-Over-clause-later
+returns-in-Over-clause-later g c = both_later c.steps.invariant.later (c.in-Over.ensures {u = tt}).later
+
+pub returns-in-WriteFault-clause-later : goal.returns-in-WriteFault-clause-later
+returns-in-WriteFault-clause-later g c = both_later c.steps.invariant.later (c.in-WriteFault.ensures {u = tt}).later
+
+pub returns-in-Memory-clause-later : goal.returns-in-Memory-clause-later
+returns-in-Memory-clause-later g c = both_later c.steps.invariant.later (c.in-Memory.ensures {u = tt}).later
+
+pub returns-in-Memory-clause-fault : goal.returns-in-Memory-clause-fault
+returns-in-Memory-clause-fault g c e = absurd (cc)

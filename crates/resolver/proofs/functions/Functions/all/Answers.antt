@@ -1,4 +1,5 @@
 use Rattle.std.proofs.Common.{◌+◌, ap, subst, ◌∙◌, arith}
+use Rattle.std.proofs.lemmas.Result.{err_from_is_err_and}
 use Rattle.resolver.specs.Trees.{head_tree}
 use Rattle.resolver.specs.Parts.{top_of, Builds}
 use Rattle.resolver.proofs.DefinedForms.{not_built, built_more, all_built}
@@ -21,3 +22,18 @@ pub returns : goal.returns
 returns c =
     all_built (head_tree c.args.self.now.head.now) c.args.self.now.names.now c.args.self.now.outside.now c.args.tops.now c.loop-top.built c.loop-top.first c.loop-top.top-index
     (omega arith) c.loop-top.invariant
+
+pub returns-in_err-end : goal.returns-in_err-end
+returns-in_err-end c =
+    let p = err_from_is_err_and c.from_residual.result c.from_residual.ensures.1 in
+    rw (p.1) tt
+
+pub returns-in_err-item : goal.returns-in_err-item
+returns-in_err-item c =
+    let p = err_from_is_err_and c.from_residual-in_err-item.result c.from_residual-in_err-item.ensures.1 in
+    rw (p.1) tt
+
+pub returns-in_err-push : goal.returns-in_err-push
+returns-in_err-push c =
+    let p = err_from_is_err_and c.from_residual-in_err-push.result c.from_residual-in_err-push.ensures.1 in
+    rw (p.1) tt

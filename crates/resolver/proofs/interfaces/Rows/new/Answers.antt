@@ -1,4 +1,5 @@
 use Rattle.std.proofs.Common.{refl, arith}
+use Rattle.std.proofs.lemmas.Result.{err_from_is_err_and}
 use Rattle.resolver.proofs.InterfaceTables.{rows_more, rows_all}
 use Rattle.resolver.proofs.interfaces.Rows.new.Goals as goal
 
@@ -9,3 +10,8 @@ loop-i-preserved c =
 
 pub returns : goal.returns
 returns c = rows_all c.args.rows.now c.loop-i.i c.loop-i.by_name.entries (omega arith) c.loop-i.invariant
+
+pub returns-in_err-insert : goal.returns-in_err-insert
+returns-in_err-insert c =
+    let p = err_from_is_err_and c.from_residual.result c.from_residual.ensures.1 in
+    rw (p.1) tt

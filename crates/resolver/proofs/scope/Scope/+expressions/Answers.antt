@@ -1,4 +1,5 @@
 use Rattle.std.proofs.Common.{ap, sym, ◌∙◌, arith}
+use Rattle.std.proofs.lemmas.Result.{err_from_is_err_and}
 use Rattle.std.specs.Option.{option_map}
 use Rattle.core_tree.specs.Tree.{tree}
 use Rattle.resolver.specs.Parts.{node_trees, scope_of, operator_of}
@@ -34,3 +35,13 @@ expressions-loop-d-preserved t c =
 
 pub expressions-returns : goal.expressions-returns
 expressions-returns t c = so_far_end (scope_of c.args.self.now) c.args.ds.now c.loop-d.nodes c.loop-d.d-index (omega arith) c.loop-d.invariant
+
+pub expressions-returns-in_err-node : goal.expressions-returns-in_err-node
+expressions-returns-in_err-node t c =
+    let p = err_from_is_err_and c.from_residual.result c.from_residual.ensures.1 in
+    rw (p.1) tt
+
+pub expressions-returns-in_err-push : goal.expressions-returns-in_err-push
+expressions-returns-in_err-push t c =
+    let p = err_from_is_err_and c.from_residual-in_err-push.result c.from_residual-in_err-push.ensures.1 in
+    rw (p.1) tt

@@ -1,8 +1,12 @@
-use Rattle.std.proofs.Common.{◌≡◌, ◌∙◌, ◌++◌, ◌∷◌, [], ◌+◌, List, IfOk, IsTrue, map, drop, subst, ap, arith}
+use Rattle.std.proofs.Common.{◌≡◌, ◌∙◌, ◌++◌, ◌∷◌, [], ◌+◌, List, IfOk, IsTrue, map, drop, subst, ap, arith, sym, refl, true, Bool, ℕ, not}
+use Rattle.std.proofs.lemmas.List.{append-nil}
+use Rattle.marked_names.specs.MarkedNames.{has_marked}
+use Rattle.syntax_rules.specs.Trees.{Path}
+use Rattle.syntax_rules.proofs.Atoms.{neither}
 use Rattle.scheme_data.specs.Forms.{form, forms}
 use Rattle.scheme_data.specs.declared.datum.Datum.{Datum}
 use Rattle.syntax_rules.specs.Patterns.{names_of, names_in, paths_of, paths_in, are_apart, are_dots, step}
-use Rattle.syntax_rules.proofs.Apart.{apart_stops, apart_on, joined_on}
+use Rattle.syntax_rules.proofs.Apart.{apart_stops, apart_on, joined_on, name_apart, name_alone, path_alone}
 use Rattle.syntax_rules.proofs.Dots.{forms_at, next_is}
 use Rattle.syntax_rules.proofs.Layers.{form-List}
 use Rattle.syntax_rules.proofs.names.Names.+adding.Goals as goal
@@ -41,4 +45,31 @@ add_all-loop-i-preserved t c =
       names = joined_on c.loop-i.self.table c.add.new.self.table _ _ _ _ c.loop-i.invariant.names names_at table;
       paths = joined_on c.loop-i.self.paths c.add.new.self.paths _ _ _ _ c.loop-i.invariant.paths
           (ap (paths_in c.args.literals.now c.args.path.now c.loop-i.i) at ∙ ap (λ n. paths_of c.args.literals.now (c.args.path.now ++ step (are_dots (forms (map form (drop (c.loop-i.i + 1) c.args.ds.now)))) c.loop-i.i ∷ []) (form c.index-ds-i.result) ++ paths_in c.args.literals.now c.args.path.now n (forms (map form (drop (c.loop-i.i + 1) c.args.ds.now)))) (next_is c.loop-i.i)) paths;
+    }
+
+pub add-returns-else-contains-clause-apart : goal.add-returns-else-contains-clause-apart
+add-returns-else-contains-clause-apart t c =
+    let same = name_apart c.args.literals.now c.args.self.now.table c.args.d.now c.in-Sym.field-0 c.in-Sym.name c.as_bytes.result.now c.in-Sym.mark c.in-Sym.is c.as_bytes.ensures c.if-is_dots.ensures c.if-contains.ensures in
+    subst (λ (e : Bool). IfOk c.add_name.result (λ b. b ≡ e)) (ap (λ x. not (has_marked c.args.self.now.table x c.in-Sym.mark)) c.as_bytes-in-Sym.ensures ∙ same) c.add_name.ensures.apart
+
+pub add-returns-else-contains-clause-names : goal.add-returns-else-contains-clause-names
+add-returns-else-contains-clause-names t c =
+    let same = name_alone c.args.literals.now c.args.d.now c.in-Sym.field-0 c.in-Sym.name c.as_bytes.result.now c.in-Sym.mark c.in-Sym.is c.as_bytes.ensures c.if-is_dots.ensures c.if-contains.ensures in
+    subst (λ (ns : List (List ℕ × ℕ)). IfOk c.add_name.result (λ b. IsTrue b → c.add_name.new.self.table ≡ c.args.self.now.table ++ ns)) (ap (λ x. (x, c.in-Sym.mark) ∷ []) c.as_bytes-in-Sym.ensures ∙ same) c.add_name.ensures.names
+
+pub add-returns-else-contains-clause-paths : goal.add-returns-else-contains-clause-paths
+add-returns-else-contains-clause-paths t c =
+    let same = path_alone c.args.literals.now c.args.path.now c.args.d.now c.in-Sym.field-0 c.in-Sym.name c.as_bytes.result.now c.in-Sym.mark c.in-Sym.is c.as_bytes.ensures c.if-is_dots.ensures c.if-contains.ensures in
+    subst (λ (ps : List Path). IfOk c.add_name.result (λ b. IsTrue b → c.add_name.new.self.paths ≡ c.args.self.now.paths ++ ps)) same c.add_name.ensures.paths
+
+pub add-returns-in_default : goal.add-returns-in_default
+add-returns-in_default t c =
+    let table = c.args.self.now.table in
+    let paths = c.args.self.now.paths in
+    let same_table = append-nil table in
+    let same_paths = append-nil paths in
+    record {
+      apart = neither (λ f. true ≡ are_apart table (names_of c.args.literals.now f)) (λ _ _. refl) (λ _ _ _. refl) (λ _ _. refl) c.args.d.now c.in_default.not-Sym c.in_default.not-List;
+      names = λ _. neither (λ f. table ≡ table ++ names_of c.args.literals.now f) (λ _ _. sym same_table) (λ _ _ _. sym same_table) (λ _ _. sym same_table) c.args.d.now c.in_default.not-Sym c.in_default.not-List;
+      paths = λ _. neither (λ f. paths ≡ paths ++ paths_of c.args.literals.now c.args.path.now f) (λ _ _. sym same_paths) (λ _ _ _. sym same_paths) (λ _ _. sym same_paths) c.args.d.now c.in_default.not-Sym c.in_default.not-List;
     }

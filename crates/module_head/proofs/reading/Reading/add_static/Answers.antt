@@ -1,0 +1,28 @@
+use Rattle.std.proofs.lemmas.Result.{err_from_is_err_and}
+use Rattle.scheme_data.specs.Forms.{form, form_place}
+use Rattle.module_head.specs.Heads.{kept, entry}
+use Rattle.module_head.proofs.Takings.{wrong_item, static_off, static_on}
+use Rattle.module_head.proofs.reading.Reading.add_static.Goals as goal
+
+pub returns-in_err-item : goal.returns-in_err-item
+returns-in_err-item c =
+    let p = err_from_is_err_and c.from_residual.result c.from_residual.ensures.1 in
+    rw (p.1, p.2) tt
+
+pub returns-in_default : goal.returns-in_default
+returns-in_default c =
+    let d = form c.args.d.now in
+    wrong_item c.args.self.now kept (form_place d) c.place.result _ (entry d) c.in_ok-item.ensures c.in_default.is c.place.ensures
+
+pub returns-in_err-declare : goal.returns-in_err-declare
+returns-in_err-declare c =
+    let p = err_from_is_err_and c.from_residual-in_err-declare.result c.from_residual-in_err-declare.ensures.1 in
+    rw (p.1, p.2) (static_off c.args.self.now c.declare.new.self (form c.args.d.now) _ c.in-Some.item _ c.in_ok-item.ensures c.in-Some.is c.in_err-declare.ensures)
+
+pub returns-in_err-push : goal.returns-in_err-push
+returns-in_err-push c =
+    let p = err_from_is_err_and c.from_residual-in_err-push.result c.from_residual-in_err-push.ensures.1 in
+    rw (p.1, p.2) tt
+
+pub returns : goal.returns
+returns c = static_on c.args.self.now c.declare.new.self (form c.args.d.now) _ c.in-Some.item c.push.new.self c.in_ok-item.ensures c.in-Some.is c.in_ok-declare.ensures c.in_ok-push.ensures.ok
