@@ -1,8 +1,8 @@
 -- The classes of words: what each spelling is read as, and what it isn't.
-use Rattle.std.proofs.Common.{◌≡◌, ℕ, List, [], ◌∷◌, Bool, true, false, if◌then◌else◌, Some, None, refl, sym, ap, ◌∙◌, codes, nat_eq, lit<, arith}
-use Rattle.std.specs.Prelude.{ℤ, pos, negsuc, not}
+use Rattle.std.proofs.Common.{◌≡◌, ℕ, List, [], ◌∷◌, Bool, true, false, Some, None, refl, sym, ap, subst, ◌∙◌, codes}
+use Rattle.std.specs.Prelude.{◌||◌, Result, Ok, Err, IfOk}
+use Rattle.c_read.specs.declared.stop.Stop.{Stop}
 use Rattle.std.specs.Option.{is_some}
-use Rattle.std.proofs.lemmas.Bool.{ne_eqb}
 use Rattle.std.proofs.lemmas.Slice.Eq.{bytes_eq-Decides}
 use Rattle.scheme_data.specs.Decimal.{number_text}
 use Rattle.c_tree.specs.declared.tree.CTy.{CTy}
@@ -16,18 +16,21 @@ use Rattle.c_tree.specs.Lexical.{Token, Word, Mark}
 use Rattle.c_tree.specs.declared.pieces.Piece.{Piece}
 use Rattle.c_tree.specs.declared.pieces.Piece.TheVariants as piece
 use Rattle.c_tree.specs.Operations.{op_text, op_named}
-use Rattle.c_tree.proofs.OpNames.{every_operation, op_named-op_text}
-use Rattle.c_tree.specs.Names.{is_function_name, is_variable_name, is_global_name, is_symbol_name, is_local_name, is_label_name, is_module_function, is_entry_name, is_maker_name, is_initializer_name}
+use Rattle.c_tree.proofs.OpNames.{op_named-op_text}
+use Rattle.c_tree.specs.Names.{is_function_name, is_variable_name, is_global_name, is_symbol_name, is_local_name, is_label_name, is_end_label_name, is_main, is_module_function, is_entry_name, is_maker_name, is_initializer_name}
 use Rattle.c_tree.specs.Spelling.{type_text, atom_text, callee_text, argument_tokens, expr_tokens, piece_tokens, pieces_tokens, NamedAtom, NamedCallee, NamedPiece, NamedPieces}
-use Rattle.c_read.specs.Words.{type_of, number_of, constant_of, or_number, value_of, atom_of, callee_of, is_return, is_if, is_goto, is_catch, is_protect}
+use Rattle.c_words.specs.declared.kind.WordKind.{WordKind}
+use Rattle.c_words.specs.declared.kind.WordKind.TheVariants as word
+use Rattle.c_words.specs.Kinds.{fixed_kind, word_kind}
+use Rattle.c_read.specs.Words.{type_in, type_of, atom_in, atom_of, callee_in, callee_of, is_return, is_if, is_goto, is_catch, is_protect}
 use Rattle.scheme_data.specs.Names.{is_same}
-use Rattle.c_read.specs.Sequences.{is_first}
+use Rattle.c_read.specs.Sequences.{is_first, Finds}
 use Rattle.c_read.specs.Productions.{is_type}
-use Rattle.c_read.proofs.Numbers.{Headed, headed_decimal, number_is}
-use Rattle.c_read.proofs.Heads.{Low, low_group, symbol_group, function_group, no_symbol, no_global, no_variable}
+use Rattle.c_read.proofs.WordKinds.{WordOf, word_of, number_word, symbol_word, label_word, operation_word, VariableWord, a_local, a_global, variable_word, FunctionWord, an_entry, a_function, any_function_word}
+use Rattle.c_read.proofs.Heads.{function_group, no_global}
 
 pub type_of_text : (t : CTy) → type_of (type_text t) ≡ Some t
-unfolding type_of
+unfolding type_of word_kind fixed_kind is_local_name is_label_name is_end_label_name is_symbol_name is_global_name is_entry_name is_function_name is_module_function is_maker_name is_initializer_name
 type_of_text ty.Obj = refl
 type_of_text ty.Long = refl
 type_of_text ty.Char = refl
@@ -35,42 +38,15 @@ type_of_text ty.Int = refl
 
 -- Atoms -------------------------------------------------------------------------------------
 
-low_constant : (word : List ℕ) → Low word → constant_of word ≡ None
-unfolding Low constant_of
-low_constant [] l = refl
-low_constant (b ∷ bs) l = let ne : nat_eq b 66 ≡ false = ne_eqb b 66 (λ e. omega arith) in rw ne refl
-
-low_headed : (word : List ℕ) → Headed word → Low word
-unfolding Low
-low_headed [] h = h
-low_headed (b ∷ bs) h = omega (arith, h.1)
-
-pub low_number : (n : ℤ) → Low (number_text n)
-unfolding Low
-low_number (pos n) = low_headed (number_text (pos n)) (headed_decimal n)
-low_number (negsuc n) = lit< tt
-
-value_of_number : (n : ℤ) → NamedAtom (atom.Int n) → value_of (number_text n) ≡ Some (atom.Int n)
-unfolding value_of
-value_of_number n h =
-    let word = number_text n in
-    let l = low_number n in
-    ap (λ b. if b then Some (atom.Sym word) else or_number (constant_of word) (number_of word)) (no_symbol word 0 (low_group word l) refl)
-    ∙ ap (λ o. or_number o (number_of word)) (low_constant word l)
-    ∙ ap (or_number None) (number_is word n h refl)
-
-value_not_variable : (word : List ℕ) → is_variable_name word ≡ false → atom_of word ≡ value_of word
-unfolding atom_of
-value_not_variable word e = ap (λ b. if b then Some (atom.Name word) else value_of word) e
+of_variable : (x : List ℕ) {k : WordKind} → VariableWord k → atom_in x k ≡ Some (atom.Name x)
+of_variable x a_local = refl
+of_variable x a_global = refl
 
 pub atom_of_text : (a : CAtom) → NamedAtom a → atom_of (atom_text a) ≡ Some a
-unfolding atom_of value_of constant_of is_variable_name is_local_name is_global_name is_symbol_name
-atom_of_text (atom.Int n) h =
-    value_not_variable (number_text n) (no_variable (number_text n) 0 (low_group (number_text n) (low_number n)) refl refl) ∙ value_of_number n h
-atom_of_text (atom.Name x) h = ap (λ b. if b then Some (atom.Name x) else value_of x) h
-atom_of_text (atom.Sym x) h =
-    value_not_variable x (no_variable x 4 (symbol_group x h) refl refl)
-    ∙ ap (λ b. if b then Some (atom.Sym x) else or_number (constant_of x) (number_of x)) h
+unfolding atom_of word_kind fixed_kind is_local_name is_label_name is_end_label_name is_symbol_name is_global_name is_entry_name is_function_name is_module_function is_maker_name is_initializer_name
+atom_of_text (atom.Int n) h = ap (atom_in (number_text n)) (number_word n h)
+atom_of_text (atom.Name x) h = of_variable x (variable_word x h)
+atom_of_text (atom.Sym x) h = ap (atom_in x) (symbol_word x h)
 atom_of_text atom.False h = refl
 atom_of_text atom.True h = refl
 atom_of_text atom.Nil h = refl
@@ -79,18 +55,144 @@ atom_of_text atom.Eof h = refl
 
 -- Callees -----------------------------------------------------------------------------------
 
-op_no_function : (op : Op) → not (is_function_name (op_text op)) ≡ true
-unfolding is_function_name is_module_function is_entry_name is_maker_name is_initializer_name
-op_no_function op = every_operation (λ o. not (is_function_name (op_text o))) refl op
-
-not_true : (b : Bool) → not b ≡ true → b ≡ false
-not_true true e = sym e
-not_true false e = refl
+of_function : (x : List ℕ) {k : WordKind} → FunctionWord k → callee_in x k ≡ Some (callee.Fun x)
+of_function x an_entry = refl
+of_function x a_function = refl
 
 pub callee_of_text : (c : Callee) → NamedCallee c → callee_of (callee_text c) ≡ Some c
 unfolding callee_of
-callee_of_text (callee.Fun name) h = rw h refl
-callee_of_text (callee.Op op) h = rw (not_true (is_function_name (op_text op)) (op_no_function op), op_named-op_text op) refl
+callee_of_text (callee.Fun name) h = of_function name (any_function_word name h)
+callee_of_text (callee.Op op) h = ap (callee_in (op_text op)) (operation_word op)
+
+-- Back from what a word says -----------------------------------------------------------------
+
+pub type_back : (w : List ℕ) (t : CTy) → type_of w ≡ Some t → w ≡ type_text t
+unfolding type_of
+type_back w t e = go (word_kind w) (word_of w) e
+  where
+    go : (k : WordKind) → WordOf k w → type_in k ≡ Some t → w ≡ type_text t
+    go (word.Type u) is e = let same : u ≡ t = cc in is ∙ ap type_text same
+    go word.Void is e = absurd (cc)
+    go word.Extern is e = absurd (cc)
+    go word.Return is e = absurd (cc)
+    go word.If is e = absurd (cc)
+    go word.Else is e = absurd (cc)
+    go word.For is e = absurd (cc)
+    go word.Goto is e = absurd (cc)
+    go word.Catch is e = absurd (cc)
+    go word.Protect is e = absurd (cc)
+    go word.False is e = absurd (cc)
+    go word.True is e = absurd (cc)
+    go word.Nil is e = absurd (cc)
+    go word.Unspec is e = absurd (cc)
+    go word.Eof is e = absurd (cc)
+    go word.Local is e = absurd (cc)
+    go word.Label is e = absurd (cc)
+    go word.EndLabel is e = absurd (cc)
+    go word.Symbol is e = absurd (cc)
+    go word.Global is e = absurd (cc)
+    go word.Entry is e = absurd (cc)
+    go word.Function is e = absurd (cc)
+    go (word.Number n) is e = absurd (cc)
+    go (word.Operation op) is e = absurd (cc)
+    go word.Other is e = absurd (cc)
+
+abbrev pub IsAtomOf : List ℕ → CAtom → Type 0
+IsAtomOf w a = (w ≡ atom_text a) × NamedAtom a
+
+pub atom_back : (w : List ℕ) (a : CAtom) → atom_of w ≡ Some a → IsAtomOf w a
+unfolding atom_of is_variable_name
+atom_back w a e = go (word_kind w) (word_of w) e
+  where
+    same : (b : CAtom) → Some b ≡ Some a → IsAtomOf w b → IsAtomOf w a
+    same b q is = subst (IsAtomOf w) (cc q) is
+
+    second : (x : Bool) → is_global_name w ≡ true → (x || is_global_name w) ≡ true
+    second true e = refl
+    second false e = e
+
+    go : (k : WordKind) → WordOf k w → atom_in w k ≡ Some a → IsAtomOf w a
+    go word.Local is e = same (atom.Name w) e (refl, ap (λ b. b || is_global_name w) is)
+    go word.Global is e = same (atom.Name w) e (refl, second (is_local_name w) is)
+    go word.Symbol is e = same (atom.Sym w) e (refl, is)
+    go (word.Number n) is e = same (atom.Int n) e (sym is.1, is.0)
+    go word.False is e = same atom.False e (is, tt)
+    go word.True is e = same atom.True e (is, tt)
+    go word.Nil is e = same atom.Nil e (is, tt)
+    go word.Unspec is e = same atom.Unspec e (is, tt)
+    go word.Eof is e = same atom.Eof e (is, tt)
+    go (word.Type t) is e = absurd (cc)
+    go word.Void is e = absurd (cc)
+    go word.Extern is e = absurd (cc)
+    go word.Return is e = absurd (cc)
+    go word.If is e = absurd (cc)
+    go word.Else is e = absurd (cc)
+    go word.For is e = absurd (cc)
+    go word.Goto is e = absurd (cc)
+    go word.Catch is e = absurd (cc)
+    go word.Protect is e = absurd (cc)
+    go word.Label is e = absurd (cc)
+    go word.EndLabel is e = absurd (cc)
+    go word.Entry is e = absurd (cc)
+    go word.Function is e = absurd (cc)
+    go (word.Operation op) is e = absurd (cc)
+    go word.Other is e = absurd (cc)
+
+abbrev pub IsCalleeOf : List ℕ → Callee → Type 0
+IsCalleeOf w c = (w ≡ callee_text c) × NamedCallee c
+
+pub entry_is_function : (w : List ℕ) → is_entry_name w ≡ true → is_function_name w ≡ true
+unfolding is_function_name
+entry_is_function w e = by (is_module_function w)
+  where
+    by : (b : Bool) → (b || (is_entry_name w || (is_maker_name w || (is_initializer_name w || is_main w)))) ≡ true
+    by true = refl
+    by false = ap (λ b. b || (is_maker_name w || (is_initializer_name w || is_main w))) e
+
+pub callee_back : (w : List ℕ) (c : Callee) → callee_of w ≡ Some c → IsCalleeOf w c
+unfolding callee_of
+callee_back w c e = go (word_kind w) (word_of w) e
+  where
+    same : (b : Callee) → Some b ≡ Some c → IsCalleeOf w b → IsCalleeOf w c
+    same b q is = subst (IsCalleeOf w) (cc q) is
+
+    go : (k : WordKind) → WordOf k w → callee_in w k ≡ Some c → IsCalleeOf w c
+    go word.Entry is e = same (callee.Fun w) e (refl, entry_is_function w is)
+    go word.Function is e = same (callee.Fun w) e (refl, is)
+    go (word.Operation op) is e = same (callee.Op op) e (is, tt)
+    go (word.Type t) is e = absurd (cc)
+    go word.Void is e = absurd (cc)
+    go word.Extern is e = absurd (cc)
+    go word.Return is e = absurd (cc)
+    go word.If is e = absurd (cc)
+    go word.Else is e = absurd (cc)
+    go word.For is e = absurd (cc)
+    go word.Goto is e = absurd (cc)
+    go word.Catch is e = absurd (cc)
+    go word.Protect is e = absurd (cc)
+    go word.False is e = absurd (cc)
+    go word.True is e = absurd (cc)
+    go word.Nil is e = absurd (cc)
+    go word.Unspec is e = absurd (cc)
+    go word.Eof is e = absurd (cc)
+    go word.Local is e = absurd (cc)
+    go word.Label is e = absurd (cc)
+    go word.EndLabel is e = absurd (cc)
+    go word.Symbol is e = absurd (cc)
+    go word.Global is e = absurd (cc)
+    go (word.Number n) is e = absurd (cc)
+    go word.Other is e = absurd (cc)
+
+-- what code answers that finds one
+pub atom_spelled : (w : List ℕ) (k : WordKind) (r : Result CAtom Stop) → k ≡ word_kind w → Finds (atom_in w k) r → IfOk r (IsAtomOf w)
+unfolding atom_of
+atom_spelled w k (Ok a) is e = atom_back w a (ap (atom_in w) (sym is) ∙ e)
+atom_spelled w k (Err s) is e = tt
+
+pub callee_spelled : (w : List ℕ) (k : WordKind) (r : Result Callee Stop) → k ≡ word_kind w → Finds (callee_in w k) r → IfOk r (IsCalleeOf w)
+unfolding callee_of
+callee_spelled w k (Ok c) is e = callee_back w c (ap (callee_in w) (sym is) ∙ e)
+callee_spelled w k (Err s) is e = tt
 
 -- What a word isn't -------------------------------------------------------------------------
 
@@ -112,29 +214,15 @@ pub record Plain (word : List ℕ) : Type 0 where
 
 -- a test that fails on each word of the grammar
 record Keyless (f : List ℕ → Bool) : Type 0 where
-  on_obj : f (codes "obj") ≡ false
-  on_long : f (codes "long") ≡ false
-  on_char : f (codes "char") ≡ false
-  on_int : f (codes "int") ≡ false
   on_return : f (codes "return") ≡ false
   on_if : f (codes "if") ≡ false
   on_goto : f (codes "goto") ≡ false
   on_catch : f (codes "BGL_CATCH") ≡ false
   on_protect : f (codes "BGL_PROTECT") ≡ false
 
-no_type : (f : List ℕ → Bool) (word : List ℕ) → Keyless f → f word ≡ true → type_of word ≡ None
-unfolding type_of
-no_type f word k y =
-    rw (
-      apart f word (codes "obj") k.on_obj y,
-      apart f word (codes "long") k.on_long y,
-      apart f word (codes "char") k.on_char y,
-      apart f word (codes "int") k.on_int y,
-    ) refl
-
-plain : (f : List ℕ → Bool) (word : List ℕ) → Keyless f → f word ≡ true → Plain word
-plain f word k y = record {
-  no_type = no_type f word k y;
+plain : (f : List ℕ → Bool) (word : List ℕ) → Keyless f → f word ≡ true → type_of word ≡ None → Plain word
+plain f word k y none = record {
+  no_type = none;
   no_return = apart f word (codes "return") k.on_return y;
   no_if = apart f word (codes "if") k.on_if y;
   no_goto = apart f word (codes "goto") k.on_goto y;
@@ -142,24 +230,48 @@ plain f word k y = record {
   no_protect = apart f word (codes "BGL_PROTECT") k.on_protect y;
 }
 
+variable_no_type : (x : List ℕ) → is_variable_name x ≡ true → type_of x ≡ None
+unfolding type_of
+variable_no_type x h = go (variable_word x h)
+  where
+    go : {k : WordKind} → VariableWord k → type_in k ≡ None
+    go a_local = refl
+    go a_global = refl
+
+label_no_type : (l : List ℕ) → is_label_name l ≡ true → type_of l ≡ None
+unfolding type_of
+label_no_type l h = ap type_in (label_word l h)
+
+function_no_type : (name : List ℕ) → is_function_name name ≡ true → type_of name ≡ None
+unfolding type_of
+function_no_type name h = go (any_function_word name h)
+  where
+    go : {k : WordKind} → FunctionWord k → type_in k ≡ None
+    go an_entry = refl
+    go a_function = refl
+
+op_no_type : (op : Op) → type_of (op_text op) ≡ None
+unfolding type_of
+op_no_type op = ap type_in (operation_word op)
+
 pub variable_plain : (x : List ℕ) → is_variable_name x ≡ true → Plain x
 unfolding is_variable_name is_local_name is_global_name
-variable_plain x h = plain is_variable_name x (record { on_obj = refl; on_long = refl; on_char = refl; on_int = refl; on_return = refl; on_if = refl; on_goto = refl; on_catch = refl; on_protect = refl }) h
+variable_plain x h = plain is_variable_name x (record { on_return = refl; on_if = refl; on_goto = refl; on_catch = refl; on_protect = refl }) h (variable_no_type x h)
 
 pub label_plain : (l : List ℕ) → is_label_name l ≡ true → Plain l
 unfolding is_label_name
-label_plain l h = plain is_label_name l (record { on_obj = refl; on_long = refl; on_char = refl; on_int = refl; on_return = refl; on_if = refl; on_goto = refl; on_catch = refl; on_protect = refl }) h
+label_plain l h = plain is_label_name l (record { on_return = refl; on_if = refl; on_goto = refl; on_catch = refl; on_protect = refl }) h (label_no_type l h)
 
 function_plain : (name : List ℕ) → is_function_name name ≡ true → Plain name
 unfolding is_function_name is_module_function is_entry_name is_maker_name is_initializer_name
-function_plain name h = plain is_function_name name (record { on_obj = refl; on_long = refl; on_char = refl; on_int = refl; on_return = refl; on_if = refl; on_goto = refl; on_catch = refl; on_protect = refl }) h
+function_plain name h = plain is_function_name name (record { on_return = refl; on_if = refl; on_goto = refl; on_catch = refl; on_protect = refl }) h (function_no_type name h)
 
 is_operation : List ℕ → Bool
 is_operation word = is_some (op_named word)
 
 op_plain : (op : Op) → Plain (op_text op)
 unfolding op_named is_operation
-op_plain op = plain is_operation (op_text op) (record { on_obj = refl; on_long = refl; on_char = refl; on_int = refl; on_return = refl; on_if = refl; on_goto = refl; on_catch = refl; on_protect = refl }) (ap is_some (op_named-op_text op))
+op_plain op = plain is_operation (op_text op) (record { on_return = refl; on_if = refl; on_goto = refl; on_catch = refl; on_protect = refl }) (ap is_some (op_named-op_text op)) (op_no_type op)
 
 pub callee_plain : (c : Callee) → NamedCallee c → Plain (callee_text c)
 callee_plain (callee.Fun name) h = function_plain name h
@@ -178,7 +290,7 @@ begins : (word : List ℕ) (rest : List Token) → Plain word → NoType (Word w
 begins word rest p = ap is_some p.no_type
 
 piece_begins : (p : Piece) (rest : List Token) → NamedPiece p → NoType (piece_tokens p rest)
-unfolding type_of
+unfolding type_of word_kind fixed_kind is_local_name is_label_name is_end_label_name is_symbol_name is_global_name is_entry_name is_function_name is_module_function is_maker_name is_initializer_name
 piece_begins (piece.Assign x e) rest h = begins x (Mark 61 ∷ expr_tokens e (Mark 59 ∷ rest)) (variable_plain x h.0)
 piece_begins (piece.Call c) rest h = begins (callee_text c.callee) (Mark 40 ∷ argument_tokens c.args (Mark 41 ∷ Mark 59 ∷ rest)) (callee_plain c.callee h.0)
 piece_begins (piece.Return e) rest h = refl

@@ -23,7 +23,7 @@ use Rattle.c_tree.specs.Names.{
   is_end_label_name,
   is_variable_name,
 }
-use Rattle.c_read.specs.Kinds.{begins_low}
+use Rattle.c_words.specs.Kinds.{begins_low}
 
 abbrev pub head : List ℕ → ℕ
 head [] = 0

@@ -1,10 +1,13 @@
 -- One byte on in a text, and in a string.
-use Rattle.std.proofs.Common.{◌≡◌, ℕ, zero, suc, ◌+◌, ◌-◌, ◌<◌, ◌≤◌, List, [], ◌∷◌, ◌++◌, length, drop, take, get_or, Bool, true, false, if◌then◌else◌, ◌&&◌, nat_eq, Option, Some, None, refl, sym, ap, ◌∙◌, append_assoc, add_assoc, arith}
+use Rattle.std.proofs.Common.{◌≡◌, ℕ, zero, suc, ◌+◌, ◌-◌, ◌<◌, ◌≤◌, List, [], ◌∷◌, ◌++◌, length, drop, get_or, true, false, if◌then◌else◌, ◌&&◌, nat_eq, Option, Some, None, refl, sym, ap, ◌∙◌, append_assoc, add_assoc, arith}
 use Rattle.std.proofs.lemmas.List.{drop_more, length-drop}
-use Rattle.std.specs.List.{prefix_len}
+use Rattle.std.proofs.Math.ListN.{drop_of_length-le}
+use Rattle.c_read.specs.Sequences.{front}
+use Rattle.std.specs.List.{prefix_len, take_while}
+use Rattle.std.proofs.lemmas.List.Sums.{take_while-cons}
 use Rattle.c_tree.specs.Lexical.{Token, Word, is_space, is_word_byte, comment_from, one_more, Quoted, spelled_at, onto_quoted, spelled_then, quoted_from, Gap, Lexed, lexeme, emit, tokens_from, tokens}
 use Rattle.c_read.specs.declared.lex.StringByte.{StringByte}
-use Rattle.c_read.specs.Scans.{quoted_onto, comment_onto, spelled_of, size_in, size_onto, lexeme_at}
+use Rattle.c_read.specs.Scans.{quoted_onto, comment_onto, spelled_of, size_in, size_onto, lexeme_at, word_lexeme}
 
 -- Tokens
 
@@ -19,14 +22,15 @@ behind_first b bs more = let e : 1 + more ≡ suc more = omega arith in ap (λ n
 pub no_longer : (text rest : List ℕ) (n : ℕ) → rest ≡ drop n text → length rest ≤ length text
 no_longer text rest n r = omega (arith, ap length r, length-drop n text)
 
-pub word_lexeme : (text : List ℕ) (first : ℕ) (rest : List ℕ) (more : ℕ) → text ≡ first ∷ rest → more ≡ prefix_len is_word_byte rest → is_space first ≡ false → is_word_byte first ≡ true
-    → Lexed (Word (take (1 + more) text)) more ≡ lexeme first rest
+-- the word of a text that begins with a byte of words
+pub whole_word : (first : ℕ) (rest : List ℕ) → is_word_byte first ≡ true → take_while is_word_byte (first ∷ rest) ≡ first ∷ take_while is_word_byte rest
+whole_word first rest w = take_while-cons is_word_byte first rest ∙ ap (λ b. if b then first ∷ take_while is_word_byte rest else []) w
+
+pub word_front : (first : ℕ) (rest : List ℕ) → is_space first ≡ false → is_word_byte first ≡ true → word_lexeme (first ∷ rest) ≡ lexeme first rest
 unfolding lexeme
-word_lexeme text first rest more t m s w =
-    let e : 1 + more ≡ suc more = omega arith in
-    let word : take (1 + more) text ≡ first ∷ take more rest = ap (take (1 + more)) t ∙ ap (λ n. take n (first ∷ rest)) e in
-    ap (λ bs. Lexed (Word bs) more) word ∙ ap (λ n. Lexed (Word (first ∷ take n rest)) n) m
-    ∙ rw (s, w) refl
+word_front first rest s w =
+    let more : prefix_len is_word_byte (first ∷ rest) - 1 ≡ prefix_len is_word_byte rest = ap (λ b. (if b then 1 + prefix_len is_word_byte rest else 0) - 1) w ∙ omega arith in
+    ap (λ bs. Lexed (Word bs) (prefix_len is_word_byte (first ∷ rest) - 1)) (whole_word first rest w) ∙ ap (λ n. Lexed (Word (first ∷ take_while is_word_byte rest)) n) more ∙ rw (s, w) refl
 
 pub over_gap : (text rest : List ℕ) (more : ℕ) → 0 < length text → Gap more ≡ lexeme_at text → rest ≡ drop (1 + more) text → tokens rest ≡ tokens text
 over_gap [] rest more h e r = absurd (omega arith)
@@ -37,13 +41,20 @@ over_blank : (b : ℕ) (bs : List ℕ) → is_space b ≡ true → tokens (b ∷
 unfolding lexeme
 over_blank b bs s = rw s refl
 
-pub over_blanks : (text : List ℕ) → tokens (drop (prefix_len is_space text) text) ≡ tokens text
-over_blanks [] = refl
-over_blanks (b ∷ bs) = go (over_blanks bs) (is_space b) refl
-  where
-    go : tokens (drop (prefix_len is_space bs) bs) ≡ tokens bs → (s : Bool) → is_space b ≡ s → tokens (drop (if s then 1 + prefix_len is_space bs else 0) (b ∷ bs)) ≡ tokens (b ∷ bs)
-    go ih true s = ap tokens (behind_first b bs (prefix_len is_space bs)) ∙ ih ∙ sym (over_blank b bs s)
-    go ih false s = refl
+-- over a blank at a place
+pub blank_on : (text : List ℕ) (i : ℕ) → i < length text → is_space (get_or text i 0) ≡ true → tokens (drop i text) ≡ tokens text → tokens (drop (i + 1) text) ≡ tokens text
+blank_on text i within s same = sym (ap tokens (drop_more text i 0 within) ∙ over_blank (get_or text i 0) (drop (i + 1) text) s) ∙ same
+
+-- behind all blanks
+pub no_token : (text : List ℕ) (i : ℕ) → length text ≤ i → tokens (drop i text) ≡ tokens text → tokens text ≡ []
+no_token text i end same = sym same ∙ ap tokens (drop_of_length-le text end)
+
+pub begins_there : (text rest : List ℕ) (i : ℕ) → i < length text → rest ≡ drop i text → front rest ≡ Some (get_or text i 0)
+begins_there text rest i within is = ap front (is ∙ drop_more text i 0 within)
+
+pub whole_front : (text rest : List ℕ) (b : ℕ) → front text ≡ Some b → rest ≡ drop 1 text → text ≡ b ∷ rest
+whole_front [] rest b e is = absurd (cc)
+whole_front (c ∷ cs) rest b e is = let same : c ≡ b = cc in ap (λ x. x ∷ cs) same ∙ ap (λ xs. b ∷ xs) (sym is)
 
 pub one_token : (text rest : List ℕ) (t : Token) (more : ℕ) → 0 < length text → Lexed t more ≡ lexeme_at text → rest ≡ drop (1 + more) text → t ∷ tokens rest ≡ tokens text
 one_token [] rest t more h e r = absurd (omega arith)

@@ -2,7 +2,6 @@ pub mod Classes
 pub mod Extends
 pub mod Faulty
 pub mod Forward
-pub mod Fronts
 pub mod Heads
 pub mod TokenKinds
 pub mod Lexing
@@ -12,8 +11,9 @@ pub mod Means
 pub mod NameWords
 pub mod Nesting
 pub mod Numbers
-pub mod Operations
 pub mod PieceLoop
 pub mod Reading
 pub mod Rows
 pub mod Runs
+pub mod Says
+pub mod WordKinds

@@ -1,10 +1,8 @@
 -- What the tokens of each kind are.
-use Rattle.std.proofs.Common.{◌≡◌, ℕ, List, Bool, true, false, if◌then◌else◌, Option, Some, None, nat_eq, codes, refl, sym, ap, subst, ◌∙◌, ◌||◌}
+use Rattle.std.proofs.Common.{◌≡◌, ℕ, List, Bool, true, false, if◌then◌else◌, nat_eq, codes, refl, sym, ap, subst, ◌∙◌, ◌||◌}
 use Rattle.std.specs.Prelude.{ℤ}
-use Rattle.std.specs.Option.{is_some}
 use Rattle.std.proofs.lemmas.Bool.{eqb-true, eq-eqb}
-use Rattle.std.proofs.lemmas.Slice.Eq.{bytes_eq-Decides}
-use Rattle.scheme_data.specs.Names.{is_same}
+use Rattle.scheme_data.specs.Fixnum.{IsFixnum}
 use Rattle.scheme_data.specs.Decimal.{number_text}
 use Rattle.c_tree.specs.declared.tree.CTy.{CTy}
 use Rattle.c_tree.specs.declared.tree.CTy.TheVariants as ty
@@ -14,17 +12,16 @@ use Rattle.c_tree.specs.declared.tree.Callee.{Callee}
 use Rattle.c_tree.specs.declared.tree.Callee.TheVariants as callee
 use Rattle.c_tree.specs.declared.op.Op.{Op}
 use Rattle.c_tree.specs.Lexical.{Token, Word, Mark, Str, Bad}
-use Rattle.c_tree.specs.Operations.{op_text, op_named}
-use Rattle.c_tree.proofs.OpNames.{every_operation, op_named-is}
+use Rattle.c_tree.specs.Operations.{op_text}
 use Rattle.c_tree.specs.Names.{is_function_name, is_variable_name, is_entry_name, is_global_name, is_symbol_name, is_local_name, is_label_name, is_end_label_name, is_target_name, is_module_function, is_maker_name, is_initializer_name}
 use Rattle.c_tree.specs.Spelling.{type_text, atom_text, callee_text, NamedAtom, NamedCallee}
-use Rattle.c_read.specs.Words.{type_of, constant_of, number_of}
 use Rattle.c_read.specs.declared.kinds.Kind.{Kind}
 use Rattle.c_read.specs.declared.kinds.Kind.TheVariants as kind
-use Rattle.c_read.specs.Kinds.{code, same_kind, begins_low, plain_kind, keyword_kind, number_kind, kind_of, mark_kind, token_kind}
-use Rattle.c_read.proofs.Numbers.{number_is, number_back}
-use Rattle.c_read.proofs.Classes.{low_number}
-use Rattle.c_read.proofs.Heads.{Low, low_begins, group_of, label_group, end_label_group, symbol_group, global_group, function_group, entry_group, low_group, no_local, no_label, no_end_label, no_symbol, no_global, no_entry, no_function}
+use Rattle.c_words.specs.declared.kind.WordKind.{WordKind}
+use Rattle.c_words.specs.declared.kind.WordKind.TheVariants as word
+use Rattle.c_words.specs.Kinds.{fixed_kind, word_kind}
+use Rattle.c_read.specs.Kinds.{code, same_kind, coarse, kind_of, mark_kind, token_kind}
+use Rattle.c_read.proofs.WordKinds.{WordOf, word_of, local_word, label_word, end_label_word, symbol_word, global_word, entry_word, function_word, number_word, operation_word}
 
 -- Kinds are told apart by their codes
 
@@ -159,112 +156,38 @@ chosen : (t : Token) (b : Bool) (k rest : Kind) → (b ≡ true → TokenOf k t)
 chosen t true k rest here there = here refl
 chosen t false k rest here there = there
 
-named : (f : List ℕ → Bool) (word : List ℕ) → f word ≡ true → NameToken f (Word word)
-named f word e = record { name = word; is = refl; named = e }
+named : (f : List ℕ → Bool) (w : List ℕ) → f w ≡ true → NameToken f (Word w)
+named f w e = record { name = w; is = refl; named = e }
 
-keyword : (word text : List ℕ) → is_same word text ≡ true → Word word ≡ Word text
-keyword word text e = ap Word ((bytes_eq-Decides word text).0 e)
+constant : (w : List ℕ) (a : CAtom) → NamedAtom a → w ≡ atom_text a → AtomToken (Word w)
+constant w a n e = record { atom = a; is = ap Word e; named = n }
 
-if_same : {X : Type 0} (word text : List ℕ) (x y : X) (rest : Option X) → (if is_same word text then Some x else rest) ≡ Some y
-    → (P : Type 0) → (word ≡ text → x ≡ y → P) → (rest ≡ Some y → P) → P
-if_same word text x y rest e P here there = go (is_same word text) refl e
-  where
-    go : (b : Bool) → is_same word text ≡ b → (if b then Some x else rest) ≡ Some y → P
-    go true s e = here ((bytes_eq-Decides word text).0 s) (cc)
-    go false s e = there e
-
-type_back : (word : List ℕ) (t : CTy) → type_of word ≡ Some t → word ≡ type_text t
-unfolding type_of
-type_back word t e =
-    let P = word ≡ type_text t in
-    let is : (u : CTy) → word ≡ type_text u → u ≡ t → P = λ u w s. w ∙ ap type_text s in
-    if_same word (codes "obj") ty.Obj t _ e P (is ty.Obj) (λ e.
-    if_same word (codes "long") ty.Long t _ e P (is ty.Long) (λ e.
-    if_same word (codes "char") ty.Char t _ e P (is ty.Char) (λ e.
-    if_same word (codes "int") ty.Int t None e P (is ty.Int) (λ e. absurd (cc)))))
-
--- a constant and its word
-record ConstantText (word : List ℕ) (a : CAtom) : Type 0 where
-  is : word ≡ atom_text a
-  named : NamedAtom a
-
-constant_back : (word : List ℕ) (a : CAtom) → constant_of word ≡ Some a → ConstantText word a
-unfolding constant_of
-constant_back word a e =
-    let P = ConstantText word a in
-    let is : (c : CAtom) → NamedAtom c → word ≡ atom_text c → c ≡ a → P =
-    λ c n w s. subst (ConstantText word) s (record { is = w; named = n }) in
-    if_same word (codes "BGL_FALSE") atom.False a _ e P (is atom.False tt) (λ e.
-    if_same word (codes "BGL_TRUE") atom.True a _ e P (is atom.True tt) (λ e.
-    if_same word (codes "BGL_NIL") atom.Nil a _ e P (is atom.Nil tt) (λ e.
-    if_same word (codes "BGL_UNSPEC") atom.Unspec a _ e P (is atom.Unspec tt) (λ e.
-    if_same word (codes "BGL_EOF") atom.Eof a None e P (is atom.Eof tt) (λ e. absurd (cc))))))
-
-type_token : (word : List ℕ) → is_some (type_of word) ≡ true → TypeToken (Word word)
-type_token word = go (type_of word) refl
-  where
-    go : (o : Option CTy) → type_of word ≡ o → is_some o ≡ true → TypeToken (Word word)
-    go None e s = absurd (cc)
-    go (Some t) e s = record { ty = t; is = ap Word (type_back word t e) }
-
-constant_token : (word : List ℕ) → is_some (constant_of word) ≡ true → AtomToken (Word word)
-constant_token word = go (constant_of word) refl
-  where
-    go : (o : Option CAtom) → constant_of word ≡ o → is_some o ≡ true → AtomToken (Word word)
-    go None e s = absurd (cc)
-    go (Some a) e s = let b = constant_back word a e in record { atom = a; is = ap Word b.is; named = b.named }
-
-number_token : (word : List ℕ) → is_some (number_of word) ≡ true → AtomToken (Word word)
-number_token word = go (number_of word) refl
-  where
-    go : (o : Option ℤ) → number_of word ≡ o → is_some o ≡ true → AtomToken (Word word)
-    go None e s = absurd (cc)
-    go (Some n) e s = let b = number_back word n e in record { atom = atom.Int n; is = ap Word (sym b.1); named = b.0 }
-
-operation_token : (word : List ℕ) → is_some (op_named word) ≡ true → OperationToken (Word word)
-operation_token word = go (op_named word) refl
-  where
-    go : (o : Option Op) → op_named word ≡ o → is_some o ≡ true → OperationToken (Word word)
-    go None e s = absurd (cc)
-    go (Some op) e s = record { op = op; is = ap Word (op_named-is word op e) }
-
-plain_means : (word : List ℕ) → TokenOf (plain_kind word) (Word word)
-unfolding plain_kind
-plain_means word =
-    chosen (Word word) (is_some (type_of word)) kind.Type _ (type_token word)
-    (chosen (Word word) (is_some (constant_of word)) kind.Value _ (constant_token word)
-    (chosen (Word word) (is_some (op_named word)) kind.Operation kind.Other (operation_token word) tt))
-
-keyword_means : (word : List ℕ) → TokenOf (keyword_kind word) (Word word)
-unfolding keyword_kind
-keyword_means word =
-    chosen (Word word) (is_same word (codes "void")) kind.Void _ (keyword word (codes "void"))
-    (chosen (Word word) (is_same word (codes "extern")) kind.Extern _ (keyword word (codes "extern"))
-    (chosen (Word word) (is_same word (codes "return")) kind.Return _ (keyword word (codes "return"))
-    (chosen (Word word) (is_same word (codes "if")) kind.If _ (keyword word (codes "if"))
-    (chosen (Word word) (is_same word (codes "else")) kind.Else _ (keyword word (codes "else"))
-    (chosen (Word word) (is_same word (codes "for")) kind.For _ (keyword word (codes "for"))
-    (chosen (Word word) (is_same word (codes "goto")) kind.Goto _ (keyword word (codes "goto"))
-    (chosen (Word word) (is_same word (codes "BGL_CATCH")) kind.Catch _ (keyword word (codes "BGL_CATCH"))
-    (chosen (Word word) (is_same word (codes "BGL_PROTECT")) kind.Protect (plain_kind word) (keyword word (codes "BGL_PROTECT"))
-    (plain_means word)))))))))
-
-word_means : (word : List ℕ) → TokenOf (kind_of word) (Word word)
-unfolding kind_of
-word_means word =
-    let t = Word word in
-    chosen t (is_local_name word) kind.Local _ (named is_local_name word)
-    (chosen t (is_label_name word) kind.Label _ (named is_label_name word)
-    (chosen t (is_end_label_name word) kind.EndLabel _ (named is_end_label_name word)
-    (chosen t (is_symbol_name word) kind.Value _ (λ e. record { atom = atom.Sym word; is = refl; named = e })
-    (chosen t (is_global_name word) kind.Global _ (named is_global_name word)
-    (chosen t (is_entry_name word) kind.Entry _ (named is_entry_name word)
-    (chosen t (is_function_name word) kind.Function _ (named is_function_name word)
-    (either_low (begins_low word))))))))
-  where
-    either_low : (b : Bool) → TokenOf (if b then number_kind word else keyword_kind word) (Word word)
-    either_low true = chosen (Word word) (is_some (number_of word)) kind.Value kind.Other (number_token word) tt
-    either_low false = keyword_means word
+word_means : (w : List ℕ) (k : WordKind) → WordOf k w → TokenOf (coarse k) (Word w)
+word_means w (word.Type t) e = record { ty = t; is = ap Word e }
+word_means w word.Void e = ap Word e
+word_means w word.Extern e = ap Word e
+word_means w word.Return e = ap Word e
+word_means w word.If e = ap Word e
+word_means w word.Else e = ap Word e
+word_means w word.For e = ap Word e
+word_means w word.Goto e = ap Word e
+word_means w word.Catch e = ap Word e
+word_means w word.Protect e = ap Word e
+word_means w word.False e = constant w atom.False tt e
+word_means w word.True e = constant w atom.True tt e
+word_means w word.Nil e = constant w atom.Nil tt e
+word_means w word.Unspec e = constant w atom.Unspec tt e
+word_means w word.Eof e = constant w atom.Eof tt e
+word_means w word.Local e = named is_local_name w e
+word_means w word.Label e = named is_label_name w e
+word_means w word.EndLabel e = named is_end_label_name w e
+word_means w word.Global e = named is_global_name w e
+word_means w word.Entry e = named is_entry_name w e
+word_means w word.Function e = named is_function_name w e
+word_means w word.Symbol e = record { atom = atom.Sym w; is = refl; named = e }
+word_means w (word.Number n) e = record { atom = atom.Int n; is = ap Word (sym e.1); named = e.0 }
+word_means w (word.Operation op) e = record { op = op; is = ap Word e }
+word_means w word.Other e = tt
 
 mark_means : (m : ℕ) → TokenOf (mark_kind m) (Mark m)
 mark_means m =
@@ -282,133 +205,106 @@ mark_means m =
 
 -- each token is of its kind
 pub means : (t : Token) → TokenOf (token_kind t) t
-means (Word word) = word_means word
+unfolding kind_of
+means (Word w) = word_means w (word_kind w) (word_of w)
 means (Mark m) = mark_means m
 means (Str text) = record { text = text; is = refl }
 means Bad = tt
 
 -- Forward to a kind -------------------------------------------------------------------------
 
-choose : (b : Bool) (k rest : Kind) → b ≡ true → (if b then k else rest) ≡ k
-choose b k rest e = ap (λ b. if b then k else rest) e
-
-pass : (b : Bool) (k rest goal : Kind) → b ≡ false → rest ≡ goal → (if b then k else rest) ≡ goal
-pass b k rest goal e r = ap (λ b. if b then k else rest) e ∙ r
-
-pub local_kind : (word : List ℕ) → is_local_name word ≡ true → kind_of word ≡ kind.Local
+pub local_kind : (w : List ℕ) → is_local_name w ≡ true → kind_of w ≡ kind.Local
 unfolding kind_of
-local_kind word e = choose (is_local_name word) kind.Local _ e
+local_kind w e = ap coarse (local_word w e)
 
-pub label_kind : (word : List ℕ) → is_label_name word ≡ true → kind_of word ≡ kind.Label
+pub label_kind : (w : List ℕ) → is_label_name w ≡ true → kind_of w ≡ kind.Label
 unfolding kind_of
-label_kind word e =
-    let g = label_group word e in
-    pass (is_local_name word) kind.Local _ kind.Label (no_local word 2 g refl) (choose (is_label_name word) kind.Label _ e)
+label_kind w e = ap coarse (label_word w e)
 
-pub end_label_kind : (word : List ℕ) → is_end_label_name word ≡ true → kind_of word ≡ kind.EndLabel
+pub end_label_kind : (w : List ℕ) → is_end_label_name w ≡ true → kind_of w ≡ kind.EndLabel
 unfolding kind_of
-end_label_kind word e =
-    let g = end_label_group word e in
-    pass (is_local_name word) kind.Local _ kind.EndLabel (no_local word 3 g refl)
-    (pass (is_label_name word) kind.Label _ kind.EndLabel (no_label word 3 g refl) (choose (is_end_label_name word) kind.EndLabel _ e))
+end_label_kind w e = ap coarse (end_label_word w e)
 
--- a word of a later group is none of the first
-past_labels : (word : List ℕ) (n : ℕ) (rest goal : Kind) → group_of word ≡ n → nat_eq n 1 ≡ false → nat_eq n 2 ≡ false → nat_eq n 3 ≡ false → rest ≡ goal
-    → (if is_local_name word then kind.Local else (if is_label_name word then kind.Label else (if is_end_label_name word then kind.EndLabel else rest))) ≡ goal
-past_labels word n rest goal g a b c r =
-    pass (is_local_name word) kind.Local _ goal (no_local word n g a)
-    (pass (is_label_name word) kind.Label _ goal (no_label word n g b) (pass (is_end_label_name word) kind.EndLabel rest goal (no_end_label word n g c) r))
-
-pub symbol_kind : (word : List ℕ) → is_symbol_name word ≡ true → kind_of word ≡ kind.Value
+pub symbol_kind : (w : List ℕ) → is_symbol_name w ≡ true → kind_of w ≡ kind.Value
 unfolding kind_of
-symbol_kind word e = past_labels word 4 _ kind.Value (symbol_group word e) refl refl refl (choose (is_symbol_name word) kind.Value _ e)
+symbol_kind w e = ap coarse (symbol_word w e)
 
-pub global_kind : (word : List ℕ) → is_global_name word ≡ true → kind_of word ≡ kind.Global
+pub global_kind : (w : List ℕ) → is_global_name w ≡ true → kind_of w ≡ kind.Global
 unfolding kind_of
-global_kind word e =
-    let g = global_group word e in
-    past_labels word 5 _ kind.Global g refl refl refl
-    (pass (is_symbol_name word) kind.Value _ kind.Global (no_symbol word 5 g refl) (choose (is_global_name word) kind.Global _ e))
+global_kind w e = ap coarse (global_word w e)
 
-pub entry_kind : (word : List ℕ) → is_entry_name word ≡ true → kind_of word ≡ kind.Entry
+pub entry_kind : (w : List ℕ) → is_entry_name w ≡ true → kind_of w ≡ kind.Entry
 unfolding kind_of
-entry_kind word e =
-    let g = entry_group word e in
-    past_labels word 6 _ kind.Entry g refl refl refl
-    (pass (is_symbol_name word) kind.Value _ kind.Entry (no_symbol word 6 g refl)
-    (pass (is_global_name word) kind.Global _ kind.Entry (no_global word 6 g refl) (choose (is_entry_name word) kind.Entry _ e)))
+entry_kind w e = ap coarse (entry_word w e)
 
 -- Words of the grammar, by computation
 
 pub false_kind : kind_of (codes "BGL_FALSE") ≡ kind.Value
-unfolding kind_of keyword_kind plain_kind is_local_name is_label_name is_end_label_name is_symbol_name is_global_name is_entry_name is_function_name is_module_function is_maker_name is_initializer_name type_of constant_of
+unfolding kind_of word_kind fixed_kind is_local_name is_label_name is_end_label_name is_symbol_name is_global_name is_entry_name is_function_name is_module_function is_maker_name is_initializer_name
 false_kind = refl
 
 pub true_kind : kind_of (codes "BGL_TRUE") ≡ kind.Value
-unfolding kind_of keyword_kind plain_kind is_local_name is_label_name is_end_label_name is_symbol_name is_global_name is_entry_name is_function_name is_module_function is_maker_name is_initializer_name type_of constant_of
+unfolding kind_of word_kind fixed_kind is_local_name is_label_name is_end_label_name is_symbol_name is_global_name is_entry_name is_function_name is_module_function is_maker_name is_initializer_name
 true_kind = refl
 
 pub nil_kind : kind_of (codes "BGL_NIL") ≡ kind.Value
-unfolding kind_of keyword_kind plain_kind is_local_name is_label_name is_end_label_name is_symbol_name is_global_name is_entry_name is_function_name is_module_function is_maker_name is_initializer_name type_of constant_of
+unfolding kind_of word_kind fixed_kind is_local_name is_label_name is_end_label_name is_symbol_name is_global_name is_entry_name is_function_name is_module_function is_maker_name is_initializer_name
 nil_kind = refl
 
 pub unspec_kind : kind_of (codes "BGL_UNSPEC") ≡ kind.Value
-unfolding kind_of keyword_kind plain_kind is_local_name is_label_name is_end_label_name is_symbol_name is_global_name is_entry_name is_function_name is_module_function is_maker_name is_initializer_name type_of constant_of
+unfolding kind_of word_kind fixed_kind is_local_name is_label_name is_end_label_name is_symbol_name is_global_name is_entry_name is_function_name is_module_function is_maker_name is_initializer_name
 unspec_kind = refl
 
 pub eof_kind : kind_of (codes "BGL_EOF") ≡ kind.Value
-unfolding kind_of keyword_kind plain_kind is_local_name is_label_name is_end_label_name is_symbol_name is_global_name is_entry_name is_function_name is_module_function is_maker_name is_initializer_name type_of constant_of
+unfolding kind_of word_kind fixed_kind is_local_name is_label_name is_end_label_name is_symbol_name is_global_name is_entry_name is_function_name is_module_function is_maker_name is_initializer_name
 eof_kind = refl
 
 pub void_kind : kind_of (codes "void") ≡ kind.Void
-unfolding kind_of keyword_kind plain_kind is_local_name is_label_name is_end_label_name is_symbol_name is_global_name is_entry_name is_function_name is_module_function is_maker_name is_initializer_name
+unfolding kind_of word_kind fixed_kind is_local_name is_label_name is_end_label_name is_symbol_name is_global_name is_entry_name is_function_name is_module_function is_maker_name is_initializer_name
 void_kind = refl
 
 pub extern_kind : kind_of (codes "extern") ≡ kind.Extern
-unfolding kind_of keyword_kind plain_kind is_local_name is_label_name is_end_label_name is_symbol_name is_global_name is_entry_name is_function_name is_module_function is_maker_name is_initializer_name
+unfolding kind_of word_kind fixed_kind is_local_name is_label_name is_end_label_name is_symbol_name is_global_name is_entry_name is_function_name is_module_function is_maker_name is_initializer_name
 extern_kind = refl
 
 pub return_kind : kind_of (codes "return") ≡ kind.Return
-unfolding kind_of keyword_kind plain_kind is_local_name is_label_name is_end_label_name is_symbol_name is_global_name is_entry_name is_function_name is_module_function is_maker_name is_initializer_name
+unfolding kind_of word_kind fixed_kind is_local_name is_label_name is_end_label_name is_symbol_name is_global_name is_entry_name is_function_name is_module_function is_maker_name is_initializer_name
 return_kind = refl
 
 pub if_kind : kind_of (codes "if") ≡ kind.If
-unfolding kind_of keyword_kind plain_kind is_local_name is_label_name is_end_label_name is_symbol_name is_global_name is_entry_name is_function_name is_module_function is_maker_name is_initializer_name
+unfolding kind_of word_kind fixed_kind is_local_name is_label_name is_end_label_name is_symbol_name is_global_name is_entry_name is_function_name is_module_function is_maker_name is_initializer_name
 if_kind = refl
 
 pub else_kind : kind_of (codes "else") ≡ kind.Else
-unfolding kind_of keyword_kind plain_kind is_local_name is_label_name is_end_label_name is_symbol_name is_global_name is_entry_name is_function_name is_module_function is_maker_name is_initializer_name
+unfolding kind_of word_kind fixed_kind is_local_name is_label_name is_end_label_name is_symbol_name is_global_name is_entry_name is_function_name is_module_function is_maker_name is_initializer_name
 else_kind = refl
 
 pub for_kind : kind_of (codes "for") ≡ kind.For
-unfolding kind_of keyword_kind plain_kind is_local_name is_label_name is_end_label_name is_symbol_name is_global_name is_entry_name is_function_name is_module_function is_maker_name is_initializer_name
+unfolding kind_of word_kind fixed_kind is_local_name is_label_name is_end_label_name is_symbol_name is_global_name is_entry_name is_function_name is_module_function is_maker_name is_initializer_name
 for_kind = refl
 
 pub goto_kind : kind_of (codes "goto") ≡ kind.Goto
-unfolding kind_of keyword_kind plain_kind is_local_name is_label_name is_end_label_name is_symbol_name is_global_name is_entry_name is_function_name is_module_function is_maker_name is_initializer_name
+unfolding kind_of word_kind fixed_kind is_local_name is_label_name is_end_label_name is_symbol_name is_global_name is_entry_name is_function_name is_module_function is_maker_name is_initializer_name
 goto_kind = refl
 
 pub catch_kind : kind_of (codes "BGL_CATCH") ≡ kind.Catch
-unfolding kind_of keyword_kind plain_kind is_local_name is_label_name is_end_label_name is_symbol_name is_global_name is_entry_name is_function_name is_module_function is_maker_name is_initializer_name
+unfolding kind_of word_kind fixed_kind is_local_name is_label_name is_end_label_name is_symbol_name is_global_name is_entry_name is_function_name is_module_function is_maker_name is_initializer_name
 catch_kind = refl
 
 pub protect_kind : kind_of (codes "BGL_PROTECT") ≡ kind.Protect
-unfolding kind_of keyword_kind plain_kind is_local_name is_label_name is_end_label_name is_symbol_name is_global_name is_entry_name is_function_name is_module_function is_maker_name is_initializer_name
+unfolding kind_of word_kind fixed_kind is_local_name is_label_name is_end_label_name is_symbol_name is_global_name is_entry_name is_function_name is_module_function is_maker_name is_initializer_name
 protect_kind = refl
 
 pub type_kind : (t : CTy) → kind_of (type_text t) ≡ kind.Type
-unfolding kind_of keyword_kind plain_kind is_local_name is_label_name is_end_label_name is_symbol_name is_global_name is_entry_name is_function_name is_module_function is_maker_name is_initializer_name type_of
+unfolding kind_of word_kind fixed_kind is_local_name is_label_name is_end_label_name is_symbol_name is_global_name is_entry_name is_function_name is_module_function is_maker_name is_initializer_name
 type_kind ty.Obj = refl
 type_kind ty.Long = refl
 type_kind ty.Char = refl
 type_kind ty.Int = refl
 
-operation_same : (op : Op) → same_kind (kind_of (op_text op)) kind.Operation ≡ true
-unfolding kind_of keyword_kind plain_kind is_local_name is_label_name is_end_label_name is_symbol_name is_global_name is_entry_name is_function_name is_module_function is_maker_name is_initializer_name type_of constant_of op_named
-operation_same op = every_operation (λ o. same_kind (kind_of (op_text o)) kind.Operation) refl op
-
 operation_kind : (op : Op) → kind_of (op_text op) ≡ kind.Operation
-operation_kind op = same_kind_is (kind_of (op_text op)) kind.Operation (operation_same op)
+unfolding kind_of
+operation_kind op = ap coarse (operation_word op)
 
 -- Kinds of atoms, of variables and of what is called
 
@@ -451,14 +347,9 @@ target_kind word e = go (is_label_name word) refl e
     go true l e = subst TargetKind (sym (label_kind word l)) t_label
     go false l e = subst TargetKind (sym (end_label_kind word e)) t_end
 
-plain_function_kind : (word : List ℕ) → is_function_name word ≡ true → is_entry_name word ≡ false → kind_of word ≡ kind.Function
+plain_function_kind : (w : List ℕ) → is_function_name w ≡ true → is_entry_name w ≡ false → kind_of w ≡ kind.Function
 unfolding kind_of
-plain_function_kind word e n =
-    let g = function_group word e in
-    past_labels word 6 _ kind.Function g refl refl refl
-    (pass (is_symbol_name word) kind.Value _ kind.Function (no_symbol word 6 g refl)
-    (pass (is_global_name word) kind.Global _ kind.Function (no_global word 6 g refl)
-    (pass (is_entry_name word) kind.Entry _ kind.Function n (choose (is_function_name word) kind.Function _ e))))
+plain_function_kind w e n = ap coarse (function_word w e n)
 
 pub function_kind : (word : List ℕ) → is_function_name word ≡ true → FunctionKind (kind_of word)
 function_kind word e = go (is_entry_name word) refl
@@ -475,25 +366,15 @@ atom_of_variable : {k : Kind} → VariableKind k → AtomKind k
 atom_of_variable v_local = a_local
 atom_of_variable v_global = a_global
 
-some_number : (word : List ℕ) (n : ℤ) → number_of word ≡ Some n → is_some (number_of word) ≡ true
-some_number word n e = ap is_some e
-
-low_kind : (word : List ℕ) → Low word → is_some (number_of word) ≡ true → kind_of word ≡ kind.Value
+number_kind : (n : ℤ) → IsFixnum n → kind_of (number_text n) ≡ kind.Value
 unfolding kind_of
-low_kind word l s =
-    let g = low_group word l in
-    past_labels word 0 _ kind.Value g refl refl refl
-    (pass (is_symbol_name word) kind.Value _ kind.Value (no_symbol word 0 g refl)
-    (pass (is_global_name word) kind.Global _ kind.Value (no_global word 0 g refl)
-    (pass (is_entry_name word) kind.Entry _ kind.Value (no_entry word 0 g refl)
-    (pass (is_function_name word) kind.Function _ kind.Value (no_function word 0 g refl)
-    (ap (λ b. if b then number_kind word else keyword_kind word) (low_begins word l) ∙ choose (is_some (number_of word)) kind.Value kind.Other s)))))
+number_kind n fits = ap coarse (number_word n fits)
 
 value_kind : (word : List ℕ) → kind_of word ≡ kind.Value → AtomKind (kind_of word)
 value_kind word e = subst AtomKind (sym e) a_value
 
 pub atom_kind : (a : CAtom) → NamedAtom a → AtomKind (kind_of (atom_text a))
-atom_kind (atom.Int n) h = value_kind (number_text n) (low_kind (number_text n) (low_number n) (ap is_some (number_is (number_text n) n h refl)))
+atom_kind (atom.Int n) h = value_kind (number_text n) (number_kind n h)
 atom_kind (atom.Name x) h = atom_of_variable (variable_kind x h)
 atom_kind (atom.Sym x) h = value_kind x (symbol_kind x h)
 atom_kind atom.False h = value_kind (codes "BGL_FALSE") false_kind

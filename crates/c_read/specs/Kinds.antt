@@ -1,11 +1,9 @@
 -- Kinds of tokens.
-use Rattle.std.specs.Prelude.{ℕ, List, [], ◌∷◌, codes, nat_eq, nat_lt, Bool, false, if◌then◌else◌}
-use Rattle.std.specs.Option.{is_some}
-use Rattle.scheme_data.specs.Names.{is_same}
+use Rattle.std.specs.Prelude.{ℕ, List, nat_eq, Bool, if◌then◌else◌}
 use Rattle.c_tree.specs.Lexical.{Token, Word, Mark, Str, Bad}
-use Rattle.c_tree.specs.Names.{is_function_name, is_entry_name, is_global_name, is_symbol_name, is_local_name, is_label_name, is_end_label_name}
-use Rattle.c_tree.specs.Operations.{op_named}
-use Rattle.c_read.specs.Words.{type_of, constant_of, number_of}
+use Rattle.c_words.specs.declared.kind.WordKind.{WordKind}
+use Rattle.c_words.specs.declared.kind.WordKind.TheVariants as word
+use Rattle.c_words.specs.Kinds.{word_kind}
 use Rattle.c_read.specs.declared.kinds.Kind.{Kind}
 use Rattle.c_read.specs.declared.kinds.Kind.TheVariants as kind
 
@@ -43,44 +41,36 @@ code kind.Other = 28
 abbrev pub same_kind : Kind → Kind → Bool
 same_kind a b = nat_eq (code a) (code b)
 
--- before the letters, as numbers do
-abbrev pub begins_low : List ℕ → Bool
-begins_low [] = false
-begins_low (b ∷ bs) = nat_lt b 65
-
-unfoldable pub plain_kind : List ℕ → Kind
-plain_kind word =
-    if is_some (type_of word) then kind.Type
-    else (if is_some (constant_of word) then kind.Value
-    else (if is_some (op_named word) then kind.Operation else kind.Other))
-
-unfoldable pub keyword_kind : List ℕ → Kind
-keyword_kind word =
-    if is_same word (codes "void") then kind.Void
-    else (if is_same word (codes "extern") then kind.Extern
-    else (if is_same word (codes "return") then kind.Return
-    else (if is_same word (codes "if") then kind.If
-    else (if is_same word (codes "else") then kind.Else
-    else (if is_same word (codes "for") then kind.For
-    else (if is_same word (codes "goto") then kind.Goto
-    else (if is_same word (codes "BGL_CATCH") then kind.Catch
-    else (if is_same word (codes "BGL_PROTECT") then kind.Protect
-    else plain_kind word))))))))
-
-abbrev pub number_kind : List ℕ → Kind
-number_kind word = if is_some (number_of word) then kind.Value else kind.Other
+-- the kind of token that a word of a kind is
+abbrev pub coarse : WordKind → Kind
+coarse (word.Type t) = kind.Type
+coarse word.Void = kind.Void
+coarse word.Extern = kind.Extern
+coarse word.Return = kind.Return
+coarse word.If = kind.If
+coarse word.Else = kind.Else
+coarse word.For = kind.For
+coarse word.Goto = kind.Goto
+coarse word.Catch = kind.Catch
+coarse word.Protect = kind.Protect
+coarse word.False = kind.Value
+coarse word.True = kind.Value
+coarse word.Nil = kind.Value
+coarse word.Unspec = kind.Value
+coarse word.Eof = kind.Value
+coarse word.Local = kind.Local
+coarse word.Label = kind.Label
+coarse word.EndLabel = kind.EndLabel
+coarse word.Symbol = kind.Value
+coarse word.Global = kind.Global
+coarse word.Entry = kind.Entry
+coarse word.Function = kind.Function
+coarse (word.Number n) = kind.Value
+coarse (word.Operation op) = kind.Operation
+coarse word.Other = kind.Other
 
 unfoldable pub kind_of : List ℕ → Kind
-kind_of word =
-    if is_local_name word then kind.Local
-    else (if is_label_name word then kind.Label
-    else (if is_end_label_name word then kind.EndLabel
-    else (if is_symbol_name word then kind.Value
-    else (if is_global_name word then kind.Global
-    else (if is_entry_name word then kind.Entry
-    else (if is_function_name word then kind.Function
-    else (if begins_low word then number_kind word
-    else keyword_kind word)))))))
+kind_of word = coarse (word_kind word)
 
 abbrev pub mark_kind : ℕ → Kind
 mark_kind m =

@@ -1,6 +1,5 @@
 pub mod Answers
 pub mod Dues
-pub mod Fronts
 pub mod Kinds
 pub mod Nesting
 pub mod Productions

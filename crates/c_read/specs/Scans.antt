@@ -1,6 +1,7 @@
 -- What code that scans a text gives, as lexemes and their parts.
-use Rattle.std.specs.Prelude.{ℕ, ◌+◌, List, [], ◌∷◌, ◌++◌, ◌&&◌, if◌then◌else◌, Option, Some, None}
-use Rattle.c_tree.specs.Lexical.{Bad, is_octal, is_coded, octal_value, Spelled, Quoted, Lexeme, Lexed, Gap, lexeme}
+use Rattle.std.specs.Prelude.{ℕ, ◌+◌, ◌-◌, List, [], ◌∷◌, ◌++◌, ◌&&◌, if◌then◌else◌, Option, Some, None}
+use Rattle.std.specs.List.{prefix_len, take_while}
+use Rattle.c_tree.specs.Lexical.{Bad, Word, is_word_byte, is_octal, is_coded, octal_value, Spelled, Quoted, Lexeme, Lexed, Gap, lexeme}
 use Rattle.c_read.specs.declared.lex.StringByte.{StringByte}
 use Rattle.c_read.specs.declared.lex.Quote.{Quote}
 use Rattle.c_read.specs.declared.lex.Scan.{Scan}
@@ -38,6 +39,10 @@ more_of (scan.Lexed t more) = more
 abbrev pub lexeme_at : List ℕ → Lexeme
 lexeme_at [] = Lexed Bad 0
 lexeme_at (b ∷ bs) = lexeme b bs
+
+-- the word at the front, which isn't empty
+abbrev pub word_lexeme : List ℕ → Lexeme
+word_lexeme text = Lexed (Word (take_while is_word_byte text)) (prefix_len is_word_byte text - 1)
 
 abbrev pub size_in : Option Quoted → Option ℕ
 size_in None = None

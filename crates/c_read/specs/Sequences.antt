@@ -43,6 +43,10 @@ abbrev pub after_mark : ℕ → List Token → Option (List Token)
 after_mark mark [] = None
 after_mark mark (t ∷ rest) = if is_that_mark mark t then Some rest else None
 
+abbrev pub is_mark_first : ℕ → List Token → Bool
+is_mark_first mark [] = false
+is_mark_first mark (t ∷ rest) = is_that_mark mark t
+
 abbrev pub word_first : List Token → Option (List ℕ × List Token)
 word_first [] = None
 word_first (t ∷ rest) = read_as (word_of t) rest

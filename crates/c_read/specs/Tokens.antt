@@ -1,7 +1,7 @@
 -- Tokens as code keeps them.
 use Rattle.std.specs.Prelude.{◌≡◌, ℕ, zero, suc, List, [], ◌∷◌, Option, Some, None, refl}
 use Rattle.std.specs.Coded.{Coded, code_by, coded_list, coded_ℕ}
-use Rattle.c_tree.specs.Lexical.{Token, Word, Mark, Str, Bad, Quoted, quoted_from}
+use Rattle.c_tree.specs.Lexical.{Token, Word, Mark, Str, Bad, Quoted, quoted_from, tokens}
 use Rattle.c_read.specs.declared.token.Part.{Part}
 use Rattle.c_read.specs.declared.token.Part.TheVariants as part
 
@@ -14,10 +14,15 @@ abbrev pub unquoted : List ℕ → List ℕ
 unquoted text = bytes_in (quoted_from 0 text)
 
 abbrev pub token_of : Part → Token
-token_of (part.Word w) = Word w.now
+token_of (part.Word w) = Word w
 token_of (part.Mark m) = Mark m
 token_of (part.Str text) = Str (unquoted text.now)
 token_of part.Bad = Bad
+
+-- a token, if there is one, and those of a text behind it
+abbrev pub ahead : Option Token → List ℕ → List Token
+ahead None text = []
+ahead (Some t) text = t ∷ tokens text
 
 -- a token as a list of numbers, and back
 abbrev pub numbers_of : Token → List ℕ

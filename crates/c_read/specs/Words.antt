@@ -1,57 +1,45 @@
--- What a word is, by its text.
-use Rattle.std.specs.Prelude.{ℕ, List, [], ◌∷◌, ◌-◌, codes, nat_eq, Bool, ◌&&◌, if◌then◌else◌, Option, Some, None, ℤ, pos, negsuc}
-use Rattle.std.specs.Option.{option_map}
-use Rattle.scheme_data.specs.Decimal.{digits_value, number_text}
+-- What a word says, by what it is.
+use Rattle.std.specs.Prelude.{ℕ, List, codes, Bool, Option, Some, None}
 use Rattle.scheme_data.specs.Names.{is_same}
-use Rattle.scheme_data.specs.Fixnum.{is_fixnum}
 use Rattle.c_tree.specs.declared.tree.CTy.{CTy}
-use Rattle.c_tree.specs.declared.tree.CTy.TheVariants as ty
 use Rattle.c_tree.specs.declared.tree.CAtom.{CAtom}
 use Rattle.c_tree.specs.declared.tree.CAtom.TheVariants as atom
 use Rattle.c_tree.specs.declared.tree.Callee.{Callee}
 use Rattle.c_tree.specs.declared.tree.Callee.TheVariants as callee
-use Rattle.c_tree.specs.Operations.{op_named}
-use Rattle.c_tree.specs.Names.{is_function_name, is_variable_name, is_symbol_name}
+use Rattle.c_words.specs.declared.kind.WordKind.{WordKind}
+use Rattle.c_words.specs.declared.kind.WordKind.TheVariants as kind
+use Rattle.c_words.specs.Kinds.{word_kind}
+
+abbrev pub type_in : WordKind → Option CTy
+type_in (kind.Type t) = Some t
+type_in _ = None
 
 unfoldable pub type_of : List ℕ → Option CTy
-type_of word =
-    if is_same word (codes "obj") then Some ty.Obj
-    else (if is_same word (codes "long") then Some ty.Long
-    else (if is_same word (codes "char") then Some ty.Char
-    else (if is_same word (codes "int") then Some ty.Int else None)))
+type_of word = type_in (word_kind word)
 
-abbrev pub signed_value : List ℕ → ℤ
-signed_value [] = pos 0
-signed_value (b ∷ bs) = if nat_eq b 45 then negsuc (digits_value 0 bs - 1) else pos (digits_value 0 (b ∷ bs))
-
-abbrev pub if_spelled : ℤ → List ℕ → Option ℤ
-if_spelled n word = if is_same (number_text n) word && is_fixnum n then Some n else None
-
--- the fixnum of which the word is the text
-unfoldable pub number_of : List ℕ → Option ℤ
-number_of word = if_spelled (signed_value word) word
-
-unfoldable pub constant_of : List ℕ → Option CAtom
-constant_of word =
-    if is_same word (codes "BGL_FALSE") then Some atom.False
-    else (if is_same word (codes "BGL_TRUE") then Some atom.True
-    else (if is_same word (codes "BGL_NIL") then Some atom.Nil
-    else (if is_same word (codes "BGL_UNSPEC") then Some atom.Unspec
-    else (if is_same word (codes "BGL_EOF") then Some atom.Eof else None))))
-
-abbrev pub or_number : Option CAtom → Option ℤ → Option CAtom
-or_number None number = option_map atom.Int number
-or_number (Some a) number = Some a
-
--- the atom of a word that names no variable
-unfoldable pub value_of : List ℕ → Option CAtom
-value_of word = if is_symbol_name word then Some (atom.Sym word) else or_number (constant_of word) (number_of word)
+abbrev pub atom_in : List ℕ → WordKind → Option CAtom
+atom_in word kind.Local = Some (atom.Name word)
+atom_in word kind.Global = Some (atom.Name word)
+atom_in word kind.Symbol = Some (atom.Sym word)
+atom_in word (kind.Number n) = Some (atom.Int n)
+atom_in word kind.False = Some atom.False
+atom_in word kind.True = Some atom.True
+atom_in word kind.Nil = Some atom.Nil
+atom_in word kind.Unspec = Some atom.Unspec
+atom_in word kind.Eof = Some atom.Eof
+atom_in word _ = None
 
 unfoldable pub atom_of : List ℕ → Option CAtom
-atom_of word = if is_variable_name word then Some (atom.Name word) else value_of word
+atom_of word = atom_in word (word_kind word)
+
+abbrev pub callee_in : List ℕ → WordKind → Option Callee
+callee_in word kind.Entry = Some (callee.Fun word)
+callee_in word kind.Function = Some (callee.Fun word)
+callee_in word (kind.Operation op) = Some (callee.Op op)
+callee_in word _ = None
 
 unfoldable pub callee_of : List ℕ → Option Callee
-callee_of word = if is_function_name word then Some (callee.Fun word) else option_map callee.Op (op_named word)
+callee_of word = callee_in word (word_kind word)
 
 abbrev pub is_return : List ℕ → Bool
 is_return word = is_same word (codes "return")

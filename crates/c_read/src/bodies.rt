@@ -28,11 +28,14 @@ ghost use Rattle.c_read.specs.Productions.{
 };
 
 use crate::calls::{read_call, read_expression};
-use crate::skips::{end_label_name, local_name, skip, skip_text, target_name, word};
+use crate::skips::{end_label_name, local_name, skip, skip_else, skip_for, target_name, word};
 use crate::stop::Stop;
 use crate::tokens::Tokens;
-use crate::words::has_text;
-use c_tree::{Layout, Piece, lay_out, names_label, names_variable};
+use crate::words::{
+    names_label, names_variable, says_catch, says_goto, says_if, says_protect, says_return,
+};
+use c_tree::{Layout, Piece, lay_out};
+use c_words::CWord;
 use scheme_data::{List, OutOfMemory, Stack, Text};
 use std::alloc::Global;
 
@@ -88,14 +91,14 @@ fn read_condition(alloc: Global, tokens: &mut Tokens<'_>) -> Result<Piece, Stop>
     opened(tokens, Piece::If(value))
 }
 
-fn read_assigned(alloc: Global, tokens: &mut Tokens<'_>, word: &[u8]) -> Result<Piece, Stop>
+fn read_assigned(alloc: Global, tokens: &mut Tokens<'_>, word: &CWord<'_>) -> Result<Piece, Stop>
     ensures read { Took (assigned word.now tokens.old) result tokens.new }
     ensures spelled { IfOk result (λ x. YieldsPiece (Word word.now ∷ Mark 61 ∷ tokens.old) x tokens.new) }
 {
     if !names_variable(word) {
         return Err(Stop::Wrong);
     }
-    let name = Text::from_bytes(alloc, word)?;
+    let name = Text::from_bytes(alloc, word.bytes())?;
     let value = read_expression(alloc, tokens)?;
     ended(tokens, Piece::Assign(name, value))
 }
@@ -105,13 +108,13 @@ fn skip_head(tokens: &mut Tokens<'_>) -> Result<(), Stop>
     ensures read { Skipped (after_head tokens.old) result tokens.new }
     ensures spelled { OnOk result (tokens.old ≡ head_tokens tokens.new) }
 {
-    skip_text(tokens, b"for")?;
+    skip_for(tokens)?;
     skip_pair(tokens, b'(', b';')?;
     skip_pair(tokens, b';', b')')?;
     skip(tokens, b'{')
 }
 
-fn read_looped(alloc: Global, tokens: &mut Tokens<'_>, word: &[u8]) -> Result<Piece, Stop>
+fn read_looped(alloc: Global, tokens: &mut Tokens<'_>, word: &CWord<'_>) -> Result<Piece, Stop>
     ensures read { Took (looped word.now tokens.old) result tokens.new }
     ensures spelled { IfOk result (λ x. YieldsPiece (Word word.now ∷ Mark 58 ∷ tokens.old) x tokens.new) }
 {
@@ -119,11 +122,11 @@ fn read_looped(alloc: Global, tokens: &mut Tokens<'_>, word: &[u8]) -> Result<Pi
         return Err(Stop::Wrong);
     }
     skip_head(tokens)?;
-    let name = Text::from_bytes(alloc, word)?;
+    let name = Text::from_bytes(alloc, word.bytes())?;
     Ok(Piece::Loop(name))
 }
 
-fn read_called(alloc: Global, tokens: &mut Tokens<'_>, word: &[u8]) -> Result<Piece, Stop>
+fn read_called(alloc: Global, tokens: &mut Tokens<'_>, word: &CWord<'_>) -> Result<Piece, Stop>
     ensures read { Took (called word.now tokens.old) result tokens.new }
     ensures spelled { IfOk result (λ x. YieldsPiece (Word word.now ∷ tokens.old) x tokens.new) }
 {
@@ -133,7 +136,7 @@ fn read_called(alloc: Global, tokens: &mut Tokens<'_>, word: &[u8]) -> Result<Pi
 }
 
 #[tactic(auto, unfolding(crate::specs::Productions::named_statement))]
-fn read_named(alloc: Global, tokens: &mut Tokens<'_>, word: &[u8]) -> Result<Piece, Stop>
+fn read_named(alloc: Global, tokens: &mut Tokens<'_>, word: &CWord<'_>) -> Result<Piece, Stop>
     ensures read { Took (named_statement word.now tokens.old) result tokens.new }
     ensures spelled { IfOk result (λ x. YieldsPiece (Word word.now ∷ tokens.old) x tokens.new) }
 {
@@ -183,17 +186,17 @@ fn read_protecting(tokens: &mut Tokens<'_>) -> Result<Piece, Stop>
     Ok(Piece::Protect)
 }
 
-fn read_rarer(alloc: Global, tokens: &mut Tokens<'_>, word: &[u8]) -> Result<Piece, Stop>
+fn read_rarer(alloc: Global, tokens: &mut Tokens<'_>, word: &CWord<'_>) -> Result<Piece, Stop>
     ensures read { Took (rarer_statement word.now tokens.old) result tokens.new }
     ensures spelled { IfOk result (λ x. YieldsPiece (Word word.now ∷ tokens.old) x tokens.new) }
 {
-    if has_text(word, b"goto") {
+    if says_goto(word) {
         return read_jump(alloc, tokens);
     }
-    if has_text(word, b"BGL_CATCH") {
+    if says_catch(word) {
         return read_catching(alloc, tokens);
     }
-    if has_text(word, b"BGL_PROTECT") {
+    if says_protect(word) {
         return read_protecting(tokens);
     }
     read_named(alloc, tokens, word)
@@ -205,13 +208,13 @@ fn read_statement(alloc: Global, tokens: &mut Tokens<'_>) -> Result<Piece, Stop>
     ensures spelled { IfOk result (λ x. YieldsPiece tokens.old x tokens.new) }
 {
     let word = word(tokens)?;
-    if has_text(word, b"return") {
+    if says_return(&word) {
         return read_returned(alloc, tokens);
     }
-    if has_text(word, b"if") {
+    if says_if(&word) {
         return read_condition(alloc, tokens);
     }
-    read_rarer(alloc, tokens, word)
+    read_rarer(alloc, tokens, &word)
 }
 
 #[tactic(auto, unfolding(crate::specs::Productions::closing_of))]
@@ -219,7 +222,7 @@ fn read_else(tokens: &mut Tokens<'_>) -> Result<Piece, Stop>
     ensures read { Took (closing_of Open.InIf tokens.old) result tokens.new }
     ensures spelled { IfOk result (λ x. YieldsPiece (Mark 125 ∷ tokens.old) x tokens.new) }
 {
-    skip_text(tokens, b"else")?;
+    skip_else(tokens)?;
     skip(tokens, b'{')?;
     Ok(Piece::Else)
 }

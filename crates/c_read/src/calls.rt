@@ -13,6 +13,7 @@ use crate::token::Part;
 use crate::tokens::Tokens;
 use crate::words::{atom, callee};
 use c_tree::{CArg, CCall, CExpr};
+use c_words::CWord;
 use scheme_data::List;
 use std::alloc::Global;
 
@@ -52,7 +53,7 @@ fn read_argument(alloc: Global, tokens: &mut Tokens<'_>) -> Result<CArg, Stop>
     ensures spelled { IfOk result (λ x. YieldsArgument tokens.old x tokens.new) }
 {
     if let Some(word) = tokens.take_word() {
-        let atom = atom(alloc, word)?;
+        let atom = atom(alloc, &word)?;
         return Ok(CArg::Atom(atom));
     }
     read_other_argument(alloc, tokens)
@@ -97,7 +98,7 @@ fn read_arguments(alloc: Global, tokens: &mut Tokens<'_>) -> Result<List<CArg>, 
 }
 
 /// The rest of a call, to its closing parenthesis.
-pub fn read_call(alloc: Global, tokens: &mut Tokens<'_>, word: &[u8]) -> Result<CCall, Stop>
+pub fn read_call(alloc: Global, tokens: &mut Tokens<'_>, word: &CWord<'_>) -> Result<CCall, Stop>
     ensures read { Took (call_of word.now tokens.old) result tokens.new }
     ensures spelled { IfOk result (λ x. YieldsCall (Word word.now ∷ Mark 40 ∷ tokens.old) x tokens.new) }
 {
@@ -114,9 +115,9 @@ pub fn read_expression(alloc: Global, tokens: &mut Tokens<'_>) -> Result<CExpr, 
 {
     let word = word(tokens)?;
     if tokens.take_mark(b'(') {
-        let call = read_call(alloc, tokens, word)?;
+        let call = read_call(alloc, tokens, &word)?;
         return Ok(CExpr::Call(call));
     }
-    let atom = atom(alloc, word)?;
+    let atom = atom(alloc, &word)?;
     Ok(CExpr::Atom(atom))
 }

@@ -28,11 +28,13 @@ ghost use Rattle.c_read.specs.Productions.{
 use crate::bodies::read_body;
 use crate::skips::{
     global_name, is_extern_next, is_type_next, is_void_next, is_word_next, local_name, skip,
-    skip_text, type_word, word,
+    skip_extern, type_word, word,
 };
 use crate::stop::Stop;
 use crate::tokens::Tokens;
-use c_tree::{CFun, CItem, CTy, CVar, Layout, names_function, names_global};
+use crate::words::{names_function, names_global};
+use c_tree::{CFun, CItem, CTy, CVar, Layout};
+use c_words::CWord;
 use scheme_data::{List, Text};
 use std::alloc::Global;
 
@@ -243,21 +245,21 @@ fn read_item_named(
     alloc: Global,
     tokens: &mut Tokens<'_>,
     ty: CTy,
-    word: &[u8],
+    word: &CWord<'_>,
 ) -> Result<CItem, Stop>
     ensures read { TookAs item_of (item_named ty word.now tokens.old) result tokens.new }
     ensures spelled { IfOk result (λ i. YieldsNamed ty word.now tokens.old i tokens.new) }
 {
     if names_global(word) {
         skip(tokens, b';')?;
-        let name = Text::from_bytes(alloc, word)?;
+        let name = Text::from_bytes(alloc, word.bytes())?;
         return Ok(CItem::Global(CVar { ty, name }));
     }
     if !names_function(word) {
         return Err(Stop::Wrong);
     }
     skip(tokens, b'(')?;
-    read_item_rest(alloc, tokens, ty, word)
+    read_item_rest(alloc, tokens, ty, word.bytes())
 }
 
 #[tactic(auto, unfolding(crate::specs::Productions::typed_item))]
@@ -267,7 +269,7 @@ fn read_typed_item(alloc: Global, tokens: &mut Tokens<'_>) -> Result<CItem, Stop
 {
     let ty = type_word(tokens)?;
     let word = word(tokens)?;
-    read_item_named(alloc, tokens, ty, word)
+    read_item_named(alloc, tokens, ty, &word)
 }
 
 #[tactic(auto, unfolding(crate::specs::Productions::item))]
@@ -276,7 +278,7 @@ fn read_item(alloc: Global, tokens: &mut Tokens<'_>) -> Result<CItem, Stop>
     ensures spelled { IfOk result (λ x. YieldsItem tokens.old x tokens.new) }
 {
     if is_extern_next(tokens) {
-        skip_text(tokens, b"extern")?;
+        skip_extern(tokens)?;
         return read_external(alloc, tokens);
     }
     read_typed_item(alloc, tokens)

@@ -1,15 +1,10 @@
 // Which kind of token a word is.
 ghost use Rattle.std.specs.Prelude.{◌≡◌};
-ghost use Rattle.std.specs.Option.{is_some};
-ghost use Rattle.c_read.specs.Kinds.{code, same_kind, begins_low, keyword_kind, plain_kind, number_kind, kind_of, mark_kind, token_kind};
+ghost use Rattle.c_read.specs.Kinds.{code, same_kind, coarse, kind_of, mark_kind, token_kind};
 ghost use Rattle.c_read.specs.Tokens.{token_of};
 
 use crate::token::Part;
-use crate::words::{constant, has_text, number, operation, type_by_name};
-use c_tree::{
-    names_end_label, names_entry, names_function, names_global, names_label, names_local,
-    names_symbol,
-};
+use c_words::{CWord, WordKind};
 
 /// A kind of token, as fine as the grammar tells tokens apart. `Value` is an atom that names no variable.
 #[derive(Clone, Copy, Debug, PartialEq, Eq)]
@@ -60,101 +55,44 @@ impl Kind {
     }
 }
 
-fn begins_low(word: &[u8]) -> bool
-    ensures { result ≡ begins_low word.now }
+fn coarse(kind: WordKind) -> Kind
+    ensures { result ≡ coarse kind }
 {
-    !word.is_empty() && word[0] < b'A'
-}
-
-#[tactic(auto, unfolding(crate::specs::Kinds::plain_kind))]
-fn plain_kind(word: &[u8]) -> Kind
-    ensures { result ≡ plain_kind word.now }
-{
-    if type_by_name(word).is_some() {
-        return Kind::Type;
-    }
-    if constant(word).is_some() {
-        return Kind::Value;
-    }
-    if operation(word).is_some() {
-        return Kind::Operation;
-    }
-    Kind::Other
-}
-
-#[tactic(auto, unfolding(crate::specs::Kinds::keyword_kind))]
-fn keyword_kind(word: &[u8]) -> Kind
-    ensures { result ≡ keyword_kind word.now }
-{
-    if has_text(word, b"void") {
-        return Kind::Void;
-    }
-    if has_text(word, b"extern") {
-        return Kind::Extern;
-    }
-    if has_text(word, b"return") {
-        return Kind::Return;
-    }
-    if has_text(word, b"if") {
-        return Kind::If;
-    }
-    if has_text(word, b"else") {
-        return Kind::Else;
-    }
-    if has_text(word, b"for") {
-        return Kind::For;
-    }
-    if has_text(word, b"goto") {
-        return Kind::Goto;
-    }
-    if has_text(word, b"BGL_CATCH") {
-        return Kind::Catch;
-    }
-    if has_text(word, b"BGL_PROTECT") {
-        return Kind::Protect;
-    }
-    plain_kind(word)
-}
-
-fn number_kind(word: &[u8]) -> Kind
-    ensures { result ≡ number_kind word.now }
-{
-    if number(word).is_some() {
-        Kind::Value
-    } else {
-        Kind::Other
+    match kind {
+        WordKind::Type(_) => Kind::Type,
+        WordKind::Void => Kind::Void,
+        WordKind::Extern => Kind::Extern,
+        WordKind::Return => Kind::Return,
+        WordKind::If => Kind::If,
+        WordKind::Else => Kind::Else,
+        WordKind::For => Kind::For,
+        WordKind::Goto => Kind::Goto,
+        WordKind::Catch => Kind::Catch,
+        WordKind::Protect => Kind::Protect,
+        WordKind::Local => Kind::Local,
+        WordKind::Label => Kind::Label,
+        WordKind::EndLabel => Kind::EndLabel,
+        WordKind::Global => Kind::Global,
+        WordKind::Entry => Kind::Entry,
+        WordKind::Function => Kind::Function,
+        WordKind::Operation(_) => Kind::Operation,
+        WordKind::False
+        | WordKind::True
+        | WordKind::Nil
+        | WordKind::Unspec
+        | WordKind::Eof
+        | WordKind::Symbol
+        | WordKind::Number(_) => Kind::Value,
+        WordKind::Other => Kind::Other,
     }
 }
 
+/// The kind of a word.
 #[tactic(auto, unfolding(crate::specs::Kinds::kind_of))]
-fn word_kind(word: &[u8]) -> Kind
+pub fn word_kind(word: &CWord<'_>) -> Kind
     ensures { result ≡ kind_of word.now }
 {
-    if names_local(word) {
-        return Kind::Local;
-    }
-    if names_label(word) {
-        return Kind::Label;
-    }
-    if names_end_label(word) {
-        return Kind::EndLabel;
-    }
-    if names_symbol(word) {
-        return Kind::Value;
-    }
-    if names_global(word) {
-        return Kind::Global;
-    }
-    if names_entry(word) {
-        return Kind::Entry;
-    }
-    if names_function(word) {
-        return Kind::Function;
-    }
-    if begins_low(word) {
-        return number_kind(word);
-    }
-    keyword_kind(word)
+    coarse(word.kind())
 }
 
 fn mark_kind(mark: u8) -> Kind

@@ -1,14 +1,15 @@
 // What stands at the front of a text.
-ghost use Rattle.std.specs.Prelude.{◌≡◌, ℕ, ◌+◌, ◌≤◌, ◌<◌, ◌∷◌, length, take, IfOk, MatchOption, nat_eq};
+ghost use Rattle.std.specs.Prelude.{◌≡◌, ℕ, ◌+◌, ◌≤◌, ◌<◌, ◌∷◌, length, IfOk, IsTrue, Some, [], MatchOption};
 ghost use Rattle.std.specs.List.{prefix_len};
-ghost use Rattle.std.specs.Option.{IfSome};
+ghost use Rattle.std.specs.Option.{IfSome, IfNone};
+ghost use Rattle.c_read.specs.Sequences.{front};
 ghost use Rattle.c_tree.specs.Lexical.{Word, Bad, Gap, Lexed, tokens, comment_len, comment_lexeme, is_space, is_word_byte, is_mark, is_octal, escape_at, octal_at, spelled_at, quoted_from, lexeme, signed_lexeme, string_lexeme};
-ghost use Rattle.c_read.specs.Scans.{octal_byte, spelled_of, quoted_of, size_in, lexeme_of, lexeme_at, more_of};
-ghost use Rattle.c_read.specs.Fronts.{gap_in, word_in};
+ghost use Rattle.c_read.specs.Scans.{octal_byte, spelled_of, quoted_of, size_in, lexeme_of, lexeme_at, word_lexeme, more_of};
 ghost use Rattle.c_read.specs.Tokens.{unquoted};
 
 use crate::token::{CToken, Part};
 use c_tree::{is_plain, tells_alphanumeric};
+use c_words::CWord;
 use scheme_data::{OutOfMemory, Text};
 use std::alloc::Global;
 
@@ -24,6 +25,13 @@ pub struct StringByte {
 pub struct Quote {
     pub bytes: Text,
     pub size: usize,
+}
+
+/// A text and its first byte, which was looked at.
+#[derive(Clone, Copy)]
+pub struct Start<'a> {
+    pub byte: u8,
+    pub text: &'a [u8],
 }
 
 /// What stands at a place, with the number of its bytes after the first.
@@ -45,8 +53,7 @@ fn tells_word(b: u8) -> bool
     tells_alphanumeric(b) || b == b'_'
 }
 
-/// Whether a byte is a mark.
-pub fn tells_mark(b: u8) -> bool
+fn tells_mark(b: u8) -> bool
     ensures { result ≡ is_mark b }
 {
     b == b'&'
@@ -171,35 +178,23 @@ pub fn unquote(alloc: Global, rest: &[u8]) -> Result<Text, OutOfMemory>
     }
 }
 
-// How many blanks stand at the front: a third of a text is indentation.
-fn blank_len(text: &[u8]) -> usize
-    ensures value { result ≡ prefix_len is_space text.now }
-    ensures within { result ≤ length text.now }
+/// Where the first byte stands that is no blank: a third of a text is indentation.
+pub fn behind_blanks<'a>(text: &'a [u8]) -> Option<Start<'a>>
+    ensures none { IfNone result (tokens text.now ≡ []) }
+    ensures front { IfSome result (λ s. front s.text.now ≡ Some s.byte) }
+    ensures same { IfSome result (λ s. tokens s.text.now ≡ tokens text.now) }
+    ensures within { IfSome result (λ s. length s.text.now ≤ length text.now) }
 {
-    let mut n = 0;
-    while n < text.len() && tells_space(text[n]) {
-        n += 1;
+    for i in 0..text.len() {
+        let byte = text[i];
+        if !tells_space(byte) {
+            return Some(Start {
+                byte,
+                text: &text[i..],
+            });
+        }
     }
-    n
-}
-
-/// A text without the blanks at its front.
-pub fn behind_blanks<'a>(text: &'a [u8]) -> &'a [u8]
-    ensures same { tokens result.now ≡ tokens text.now }
-    ensures within { length result.now ≤ length text.now }
-{
-    &text[blank_len(text)..]
-}
-
-fn word_len(rest: &[u8]) -> usize
-    ensures value { result ≡ prefix_len is_word_byte rest.now }
-    ensures within { result ≤ length rest.now }
-{
-    let mut n = 0;
-    while n < rest.len() && tells_word(rest[n]) {
-        n += 1;
-    }
-    n
+    None
 }
 
 fn wrong<'a>() -> Scan<'a>
@@ -208,25 +203,30 @@ fn wrong<'a>() -> Scan<'a>
     Scan::Lexed(CToken::new(Part::Bad), 0)
 }
 
-// A word, and how many bytes it has after its first.
-fn word_at<'a>(text: &'a [u8], more: usize) -> Scan<'a>
-    requires { more < length text.now }
-    ensures lexeme { lexeme_of result ≡ Lexed (Word (take (1 + more) text.now)) more }
+// The word at the front.
+fn word_at<'a>(byte: u8, text: &'a [u8]) -> Scan<'a>
+    requires front { front text.now ≡ Some byte }
+    requires word { IsTrue (is_word_byte byte) }
+    ensures lexeme { lexeme_of result ≡ word_lexeme text.now }
     ensures within { more_of result < length text.now }
 {
-    Scan::Lexed(CToken::new(Part::Word(&text[..1 + more])), more)
+    let word = CWord::at_front(byte, text);
+    let more = word.bytes().len() - 1;
+    Scan::Lexed(CToken::new(Part::Word(word)), more)
 }
 
+// A sign belongs to the word right behind it.
 fn signed_at<'a>(text: &'a [u8], rest: &[u8]) -> Scan<'a>
     requires { text.now ≡ 45 ∷ rest.now }
     ensures lexeme { lexeme_of result ≡ signed_lexeme rest.now }
     ensures within { more_of result < length text.now }
 {
-    let more = word_len(rest);
+    let word = CWord::signed_at_front(text);
+    let more = word.bytes().len() - 1;
     if more == 0 {
         return wrong();
     }
-    word_at(text, more)
+    Scan::Lexed(CToken::new(Part::Word(word)), more)
 }
 
 fn string_at<'a>(rest: &'a [u8]) -> Scan<'a>
@@ -278,71 +278,6 @@ fn comment_at<'a>(rest: &[u8]) -> Scan<'a>
     }
 }
 
-fn gap_from(first: u8, rest: &[u8]) -> Option<usize>
-    ensures gap { result ≡ gap_in (lexeme first rest.now) }
-    ensures within { IfSome result (λ n. n ≤ length rest.now) }
-{
-    if tells_space(first) {
-        return Some(0);
-    }
-    if first != b'/' {
-        return None;
-    }
-    comment_more(rest)
-}
-
-/// How many bytes the gap at the front of a text has after its first, if one is there.
-pub fn gap_at(text: &[u8]) -> Option<usize>
-    ensures gap { result ≡ gap_in (lexeme_at text.now) }
-    ensures within { IfSome result (λ n. n < length text.now) }
-{
-    if text.is_empty() {
-        return None;
-    }
-    gap_from(text[0], &text[1..])
-}
-
-// A sign belongs to the word right behind it.
-fn signed_more(text: &[u8], rest: &[u8]) -> Option<usize>
-    requires { text.now ≡ 45 ∷ rest.now }
-    ensures word { result ≡ word_in (signed_lexeme rest.now) }
-    ensures lexeme { IfSome result (λ more. signed_lexeme rest.now ≡ Lexed (Word (take (1 + more) text.now)) more) }
-    ensures within { IfSome result (λ n. n ≤ length rest.now) }
-{
-    let more = word_len(rest);
-    if more == 0 {
-        return None;
-    }
-    Some(more)
-}
-
-fn word_from(text: &[u8], first: u8, rest: &[u8]) -> Option<usize>
-    requires { text.now ≡ first ∷ rest.now }
-    ensures word { result ≡ word_in (lexeme first rest.now) }
-    ensures lexeme { IfSome result (λ more. lexeme first rest.now ≡ Lexed (Word (take (1 + more) text.now)) more) }
-    ensures within { IfSome result (λ n. n ≤ length rest.now) }
-{
-    if tells_word(first) {
-        return Some(word_len(rest));
-    }
-    if first != b'-' {
-        return None;
-    }
-    signed_more(text, rest)
-}
-
-/// How many bytes the word at the front of a text has after its first, if one is there.
-pub fn word_at_front(text: &[u8]) -> Option<usize>
-    ensures word { result ≡ word_in (lexeme_at text.now) }
-    ensures lexeme { IfSome result (λ more. lexeme_at text.now ≡ Lexed (Word (take (1 + more) text.now)) more) }
-    ensures within { IfSome result (λ n. n < length text.now) }
-{
-    if text.is_empty() {
-        return None;
-    }
-    word_from(text, text[0], &text[1..])
-}
-
 // What stands at the front of a text that begins so.
 #[tactic(auto, unfolding(c_tree::specs::Lexical::lexeme))]
 fn scan_first<'a>(text: &'a [u8], first: u8, rest: &'a [u8]) -> Scan<'a>
@@ -354,7 +289,7 @@ fn scan_first<'a>(text: &'a [u8], first: u8, rest: &'a [u8]) -> Scan<'a>
         return Scan::Gap(0);
     }
     if tells_word(first) {
-        return word_at(text, word_len(rest));
+        return word_at(first, text);
     }
     if first == b'-' {
         return signed_at(text, rest);
@@ -369,6 +304,15 @@ fn scan_first<'a>(text: &'a [u8], first: u8, rest: &'a [u8]) -> Scan<'a>
         return comment_at(rest);
     }
     wrong()
+}
+
+/// What stands at the front of a text, of which the first byte was looked at.
+pub fn scan_start<'a>(start: Start<'a>) -> Scan<'a>
+    requires { front start.text.now ≡ Some start.byte }
+    ensures lexeme { lexeme_of result ≡ lexeme_at start.entry.text.now }
+    ensures within { more_of result < length start.entry.text.now }
+{
+    scan_first(start.text, start.byte, &start.text[1..])
 }
 
 /// What stands at the front of a text that isn't empty.

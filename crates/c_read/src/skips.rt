@@ -1,17 +1,21 @@
 // Single tokens.
-ghost use Rattle.std.specs.Prelude.{◌≡◌, List, ◌∷◌, Some, None, if◌then◌else◌, OnOk, IfOk, IsTrue};
+ghost use Rattle.std.specs.Prelude.{◌≡◌, List, ◌∷◌, Some, None, if◌then◌else◌, OnOk, IfOk, IsTrue, codes};
 ghost use Rattle.std.specs.Option.{is_some};
 ghost use Rattle.c_tree.specs.Lexical.{Token, Word, Mark};
 ghost use Rattle.c_tree.specs.Spelling.{type_text};
 ghost use Rattle.c_tree.specs.Names.{is_entry_name, is_global_name, is_local_name, is_end_label_name, is_target_name};
-ghost use Rattle.c_read.specs.Sequences.{Took, TookAs, lent, Skipped, after_mark, after_text, word_first, named, first_word, is_first};
+ghost use Rattle.c_read.specs.Sequences.{Took, Skipped, after_mark, after_text, word_first, named, first_word, is_first};
 ghost use Rattle.c_read.specs.Words.{is_extern};
 ghost use Rattle.c_read.specs.Productions.{is_type, any_word, is_void, type_first};
 
 use crate::stop::Stop;
 use crate::tokens::Tokens;
-use crate::words::{has_text, type_by_name};
-use c_tree::{CTy, names_end_label, names_entry, names_global, names_local, names_target};
+use crate::words::{
+    names_end_label, names_entry, names_global, names_local, names_target, says_else, says_extern,
+    says_for, says_void, type_by_name,
+};
+use c_tree::CTy;
+use c_words::CWord;
 use scheme_data::Text;
 use std::alloc::Global;
 
@@ -27,9 +31,9 @@ pub fn skip(tokens: &mut Tokens<'_>, mark: u8) -> Result<(), Stop>
 }
 
 /// Takes a word.
-pub fn word<'a>(tokens: &mut Tokens<'a>) -> Result<&'a [u8], Stop>
-    ensures read { TookAs lent (word_first tokens.old) result tokens.new }
-    ensures spelled { IfOk result (λ w. tokens.old ≡ Word w.now ∷ tokens.new) }
+pub fn word<'a>(tokens: &mut Tokens<'a>) -> Result<CWord<'a>, Stop>
+    ensures read { Took (word_first tokens.old) result tokens.new }
+    ensures spelled { IfOk result (λ w. tokens.old ≡ Word w ∷ tokens.new) }
 {
     match tokens.take_word() {
         Some(word) => Ok(word),
@@ -37,27 +41,51 @@ pub fn word<'a>(tokens: &mut Tokens<'a>) -> Result<&'a [u8], Stop>
     }
 }
 
-/// Takes a word with this text.
-pub fn skip_text(tokens: &mut Tokens<'_>, text: &[u8]) -> Result<(), Stop>
-    ensures read { Skipped (after_text text.now tokens.old) result tokens.new }
-    ensures spelled { OnOk result (tokens.old ≡ Word text.now ∷ tokens.new) }
+/// Takes the word `for`.
+pub fn skip_for(tokens: &mut Tokens<'_>) -> Result<(), Stop>
+    ensures read { Skipped (after_text (codes "for") tokens.old) result tokens.new }
+    ensures spelled { OnOk result (tokens.old ≡ Word (codes "for") ∷ tokens.new) }
 {
     let word = word(tokens)?;
-    if has_text(word, text) {
+    if says_for(&word) {
+        return Ok(());
+    }
+    Err(Stop::Wrong)
+}
+
+/// Takes the word `else`.
+pub fn skip_else(tokens: &mut Tokens<'_>) -> Result<(), Stop>
+    ensures read { Skipped (after_text (codes "else") tokens.old) result tokens.new }
+    ensures spelled { OnOk result (tokens.old ≡ Word (codes "else") ∷ tokens.new) }
+{
+    let word = word(tokens)?;
+    if says_else(&word) {
+        return Ok(());
+    }
+    Err(Stop::Wrong)
+}
+
+/// Takes the word `extern`.
+pub fn skip_extern(tokens: &mut Tokens<'_>) -> Result<(), Stop>
+    ensures read { Skipped (after_text (codes "extern") tokens.old) result tokens.new }
+    ensures spelled { OnOk result (tokens.old ≡ Word (codes "extern") ∷ tokens.new) }
+{
+    let word = word(tokens)?;
+    if says_extern(&word) {
         return Ok(());
     }
     Err(Stop::Wrong)
 }
 
 // The name that a word is, where it is allowed.
-fn name_if(alloc: Global, word: &[u8], allowed: bool) -> Result<Text, Stop>
+fn name_if(alloc: Global, word: &CWord<'_>, allowed: bool) -> Result<Text, Stop>
     ensures read { (rest : List Token) → Took (if allowed then Some (word.now, rest) else None) result rest }
     ensures spelled { IfOk result (λ w. (w ≡ word.now) × IsTrue allowed) }
 {
     if !allowed {
         return Err(Stop::Wrong);
     }
-    let name = Text::from_bytes(alloc, word)?;
+    let name = Text::from_bytes(alloc, word.bytes())?;
     Ok(name)
 }
 
@@ -66,7 +94,7 @@ pub fn local_name(alloc: Global, tokens: &mut Tokens<'_>) -> Result<Text, Stop>
     ensures spelled { IfOk result (λ w. (tokens.old ≡ Word w ∷ tokens.new) × IsTrue (is_local_name w)) }
 {
     let word = word(tokens)?;
-    name_if(alloc, word, names_local(word))
+    name_if(alloc, &word, names_local(&word))
 }
 
 pub fn global_name(alloc: Global, tokens: &mut Tokens<'_>) -> Result<Text, Stop>
@@ -74,7 +102,7 @@ pub fn global_name(alloc: Global, tokens: &mut Tokens<'_>) -> Result<Text, Stop>
     ensures spelled { IfOk result (λ w. (tokens.old ≡ Word w ∷ tokens.new) × IsTrue (is_global_name w)) }
 {
     let word = word(tokens)?;
-    name_if(alloc, word, names_global(word))
+    name_if(alloc, &word, names_global(&word))
 }
 
 pub fn entry_name(alloc: Global, tokens: &mut Tokens<'_>) -> Result<Text, Stop>
@@ -82,7 +110,7 @@ pub fn entry_name(alloc: Global, tokens: &mut Tokens<'_>) -> Result<Text, Stop>
     ensures spelled { IfOk result (λ w. (tokens.old ≡ Word w ∷ tokens.new) × IsTrue (is_entry_name w)) }
 {
     let word = word(tokens)?;
-    name_if(alloc, word, names_entry(word))
+    name_if(alloc, &word, names_entry(&word))
 }
 
 pub fn end_label_name(alloc: Global, tokens: &mut Tokens<'_>) -> Result<Text, Stop>
@@ -90,7 +118,7 @@ pub fn end_label_name(alloc: Global, tokens: &mut Tokens<'_>) -> Result<Text, St
     ensures spelled { IfOk result (λ w. (tokens.old ≡ Word w ∷ tokens.new) × IsTrue (is_end_label_name w)) }
 {
     let word = word(tokens)?;
-    name_if(alloc, word, names_end_label(word))
+    name_if(alloc, &word, names_end_label(&word))
 }
 
 pub fn target_name(alloc: Global, tokens: &mut Tokens<'_>) -> Result<Text, Stop>
@@ -98,7 +126,7 @@ pub fn target_name(alloc: Global, tokens: &mut Tokens<'_>) -> Result<Text, Stop>
     ensures spelled { IfOk result (λ w. (tokens.old ≡ Word w ∷ tokens.new) × IsTrue (is_target_name w)) }
 {
     let word = word(tokens)?;
-    name_if(alloc, word, names_target(word))
+    name_if(alloc, &word, names_target(&word))
 }
 
 #[tactic(auto, unfolding(crate::specs::Productions::type_first))]
@@ -107,7 +135,7 @@ pub fn type_word(tokens: &mut Tokens<'_>) -> Result<CTy, Stop>
     ensures spelled { IfOk result (λ t. tokens.old ≡ Word (type_text t) ∷ tokens.new) }
 {
     let word = word(tokens)?;
-    match type_by_name(word) {
+    match type_by_name(&word) {
         Some(ty) => Ok(ty),
         None => Err(Stop::Wrong),
     }
@@ -132,7 +160,7 @@ pub fn is_extern_next(tokens: &Tokens<'_>) -> bool
     ensures { result ≡ is_first is_extern tokens.now }
 {
     match tokens.next_word() {
-        Some(word) => has_text(word, b"extern"),
+        Some(word) => says_extern(word),
         None => false,
     }
 }
@@ -141,7 +169,7 @@ pub fn is_void_next(tokens: &Tokens<'_>) -> bool
     ensures { result ≡ is_first is_void tokens.now }
 {
     match tokens.next_word() {
-        Some(word) => has_text(word, b"void"),
+        Some(word) => says_void(word),
         None => false,
     }
 }

@@ -6,12 +6,13 @@ ghost use Rattle.c_read.specs.Tokens.{token_of};
 ghost use Rattle.c_read.specs.Kinds.{token_kind};
 
 use crate::kinds::{Kind, part_kind};
+use c_words::CWord;
 use std::marker::Model;
 
-/// What a token is made of: a word, a mark of one byte, a string as the text behind its opening quote, or what begins no token. Nothing is copied from the text.
+/// What a token is made of: a word with what it is, a mark of one byte, a string as the text behind its opening quote, or what begins no token. Nothing is copied from the text.
 #[derive(Drop)]
 pub enum Part<'a> {
-    Word(&'a [u8]),
+    Word(CWord<'a>),
     Mark(u8),
     Str(&'a [u8]),
     Bad,
@@ -47,6 +48,30 @@ impl<'a> CToken<'a> {
         ensures { token_of result ≡ self.entry }
     {
         self.part
+    }
+
+    /// The word that it is, if it is one.
+    pub fn word(&self) -> Option<&CWord<'a>>
+        ensures { option_copied result ≡ word_of self.now }
+    {
+        match &self.part {
+            Part::Word(word) => Some(word),
+            Part::Mark(_) => None,
+            Part::Str(_) => None,
+            Part::Bad => None,
+        }
+    }
+
+    /// Whether it is this mark.
+    pub fn is_mark(&self, mark: u8) -> bool
+        ensures { result ≡ is_that_mark mark self.now }
+    {
+        match self.part {
+            Part::Mark(own) => own == mark,
+            Part::Word(_) => false,
+            Part::Str(_) => false,
+            Part::Bad => false,
+        }
     }
 
     /// Its kind.

@@ -5,8 +5,6 @@ pub mod Forwards
 pub mod Left
 pub mod NameShapes
 pub mod OpNames
-mod OwnOrder
 pub mod Ranges
-mod ReadBack
 pub mod Spelled
 pub mod Unmangled

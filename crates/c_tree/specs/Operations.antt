@@ -1,8 +1,6 @@
 -- The operations of the runtime: what each is called in a C text, what it asks of its arguments, and what it gives. The row of a primitive is made from the table of primitives.
-use Rattle.std.specs.Prelude.{◌≡◌, ℕ, List, [], ◌∷◌, ◌++◌, codes, map, find, slice_get, nat_eq, Bool, true, false, ◌&&◌, if◌then◌else◌, Option, Some, None}
-use Rattle.std.specs.List.{list_all}
-use Rattle.std.specs.Ordering.{nat_cmp, is_lt}
-use Rattle.std.specs.Cmp.Lexicographic.{pointwise, slice_cmp}
+use Rattle.std.specs.Prelude.{◌≡◌, ℕ, List, [], ◌∷◌, ◌++◌, codes, map, find, slice_get, nat_eq, Bool, true, false, if◌then◌else◌, Option, Some, None}
+use Rattle.std.specs.Cmp.Lexicographic.{pointwise}
 use Rattle.prim_table.specs.declared.types.Ty.{Ty}
 use Rattle.prim_table.specs.declared.types.Ty.TheVariants as types
 use Rattle.prim_table.specs.declared.primitives.Primitive.{Primitive}
@@ -146,18 +144,6 @@ operations = own_operations ++ map Does (primitives ++ externs)
 
 abbrev pub is_op : List ℕ → Op → Bool
 is_op word op = pointwise nat_eq word (op_text op)
-
--- the same of those whose rows stand here
-abbrev pub is_own_name : List ℕ → Op → Bool
-is_own_name word op = pointwise nat_eq word (own_name op)
-
-abbrev pub is_before : Op → Op → Bool
-is_before p q = is_lt (slice_cmp nat_cmp (own_name p) (own_name q))
-
--- each name is before those after it
-abbrev pub are_rising : List Op → Bool
-are_rising [] = true
-are_rising (p ∷ ps) = list_all (is_before p) ps && are_rising ps
 
 -- the operation of a name
 unfoldable pub op_named : List ℕ → Option Op

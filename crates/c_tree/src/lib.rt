@@ -8,26 +8,22 @@ mod laying;
 mod name_tests;
 mod name_texts;
 mod op;
-mod op_names;
 mod order;
 mod pieces;
 mod plain;
 mod tree;
-mod unmangling;
 mod walk;
 
 pub use function::{CFun, CItem, CProgram, CUnit};
 pub use laying::Layout;
 pub use name_tests::{
-    begins_as_entry, begins_as_initializer, begins_as_maker, names_end_label, names_entry,
-    names_function, names_global, names_label, names_local, names_main, names_symbol, names_target,
-    names_variable, tells_alphanumeric,
+    begins_as_entry, begins_as_initializer, begins_as_maker, names_local, names_main,
+    tells_alphanumeric,
 };
 pub use name_texts::{
     function_name_text, initializer_name_text, label_name_text, local_name_text, maker_name_text,
 };
 pub use op::{Op, Wants};
-pub use op_names::op_by_name;
 pub use order::{lay_out, pieces_in};
 pub use pieces::{Piece, PieceRef};
 pub use plain::is_plain;

@@ -200,8 +200,8 @@ impl Op {
         listed
     }
 
-    /// Its name, of an operation whose row stands here.
-    pub(crate) fn own_name(self) -> &'static [u8]
+    /// Its name, of an operation whose row stands here; nothing of a primitive.
+    pub fn own_name(self) -> &'static [u8]
         ensures { result.now ≡ own_name self }
     {
         match self.row() {

@@ -10,5 +10,5 @@ mod types;
 pub use errors::ErrCode;
 pub use primitives::Primitive;
 pub use rows::{PrimRow, prim_row};
-pub use search::{extern_by_name, prim_by_name};
+pub use search::{prim_by_name, primitives_by_name};
 pub use types::{Ty, type_by_name};

@@ -1,14 +1,14 @@
-// The look-ups by name.
+// The primitives by their names.
 ghost use Rattle.std.specs.Prelude.{◌≡◌, IsTrue, find};
 ghost use Rattle.std.specs.Cmp.Lexicographic.{slice_cmp};
 ghost use Rattle.std.specs.Ordering.{nat_cmp};
-ghost use Rattle.prim_table.specs.Table.{name_of, is_name, prim_named, extern_named};
+ghost use Rattle.prim_table.specs.Table.{name_of, is_name, primitives, prim_named};
 ghost use Rattle.prim_table.specs.Order.{are_rising};
 
 use crate::{Primitive, prim_row};
 use std::cmp::Ordering;
 
-// Both in the order of the names' bytes.
+// In the order of the names' bytes.
 static PRIMITIVES: [Primitive; 75] = [
     Primitive::Multiply,
     Primitive::MultiplyFixnum,
@@ -87,14 +87,12 @@ static PRIMITIVES: [Primitive; 75] = [
     Primitive::IsZero,
 ];
 
-static EXTERNS: [Primitive; 6] = [
-    Primitive::BitAnd,
-    Primitive::BitShiftLeft,
-    Primitive::BitNot,
-    Primitive::BitOr,
-    Primitive::BitShiftRight,
-    Primitive::BitXor,
-];
+/// The primitives, which a source calls by their names, in the order of the names' bytes.
+pub fn primitives_by_name() -> &'static [Primitive]
+    ensures { result.now ≡ primitives }
+{
+    &PRIMITIVES
+}
 
 fn compare(p: Primitive, name: &[u8]) -> Ordering
     ensures { result ≡ slice_cmp nat_cmp (name_of p) name.now }
@@ -119,12 +117,4 @@ pub fn prim_by_name(name: &[u8]) -> Option<Primitive>
     ensures { result ≡ prim_named name.now }
 {
     found_in(&PRIMITIVES, name)
-}
-
-/// The extern C function of a C name; none exactly for other names.
-#[tactic(auto, unfolding(crate::specs::Table::extern_named))]
-pub fn extern_by_name(c_name: &[u8]) -> Option<Primitive>
-    ensures { result ≡ extern_named c_name.now }
-{
-    found_in(&EXTERNS, c_name)
 }

@@ -4,15 +4,11 @@ use Rattle.std.specs.Prelude.{true}
 use Rattle.std.specs.List.{list_all}
 use Rattle.std.specs.Fmt.{decimal, signed_decimal}
 use Rattle.std.specs.Int.Signed.{mag}
-use Rattle.std.specs.Str.{IsUtf8}
-use Rattle.std.specs.Str.Parse.{digits_value, ParsesSigned}
-use Rattle.std.proofs.lemmas.Str.{IsUtf8-from_ascii}
-use Rattle.std.proofs.Common.{Result, Ok}
+use Rattle.std.specs.Str.Parse.{digits_value}
 use Rattle.scheme_data.specs.Fixnum.{IsFixnum}
 use borrow.Author.Tests.{ltb-true}
-use Rattle.std.proofs.Common.{subst}
 use Rattle.std.proofs.lemmas.Bool.{and_parts}
-use Rattle.std.proofs.lemmas.Fmt.{PrependsLastDigit, decimal_from_prepends, length-decimal-le, decimal_injective, signed_decimal_injective, digits_decimal, first_decimal, decimal_nonempty, decimal_digit, IsAscii-signed, parse-signed_decimal}
+use Rattle.std.proofs.lemmas.Fmt.{PrependsLastDigit, decimal_from_prepends, length-decimal-le, decimal_injective, signed_decimal_injective, digits_decimal, first_decimal, decimal_nonempty, decimal_digit}
 use Rattle.std.proofs.lemmas.Int.{to_z-of_z}
 use Rattle.std.proofs.lemmas.List.{append-nil, nil_from_length}
 use Rattle.std.proofs.lemmas.Str.Parse.{IsNumeralModel, numerals_by_value}
@@ -77,15 +73,6 @@ number_text-IsSignedText (negsuc n) small = (decimal_text (suc n), refl, decimal
 pub mag_fixnum : (n : ℤ) → IsFixnum n → mag n < 2 ^ 60
 mag_fixnum (pos n) fits = omega (arith, ltb-true)
 mag_fixnum (negsuc n) fits = omega (arith, ltb-true)
-
-pub fixnum_text-signed_decimal : (n : ℤ) (bytes : List ℕ) → IsFixnum n → number_text n ≡ bytes → bytes ≡ signed_decimal n
-fixnum_text-signed_decimal n bytes fits same = sym same ∙ number_text-signed_decimal n (omega (arith, mag_fixnum n fits))
-
-pub spelled_is_text : (n : ℤ) (bytes : List ℕ) → IsFixnum n → number_text n ≡ bytes → IsUtf8 bytes
-spelled_is_text n bytes fits same = subst IsUtf8 (sym (fixnum_text-signed_decimal n bytes fits same)) (IsUtf8-from_ascii (signed_decimal n) (IsAscii-signed n (omega (arith, mag_fixnum n fits))))
-
-pub spelled_is_read : {E : Type 0} (n : ℤ) (bytes : List ℕ) (r : Result ℤ E) → IsFixnum n → number_text n ≡ bytes → ParsesSigned w64 10 bytes r → r ≡ Ok n
-spelled_is_read n bytes r fits same parses = let small : mag n < 2 ^ 63 = omega (arith, mag_fixnum n fits) in parse-signed_decimal w64 n bytes r (record { sfits = small }) small (fixnum_text-signed_decimal n bytes fits same) parses
 
 fixnum_fits : (n : ℤ) → IsFixnum n → FitsSigned w64 n
 fixnum_fits n fits = let small : mag n < 2 ^ 63 = omega (arith, mag_fixnum n fits) in record { sfits = small }

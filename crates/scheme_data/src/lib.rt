@@ -14,7 +14,7 @@ mod typing;
 pub use datum::{Datum, LimitKind, Place};
 pub use fixnum::{box_long, is_in_range, is_long, unbox_long};
 pub use list::{CallList, List, TextList};
-pub use number::{NumberText, number_of_text, push_decimal, push_number};
+pub use number::{NumberText, push_decimal, push_number};
 pub use place::place_after;
 pub use stack::Stack;
 pub use symbol::{has_symbol_form, is_digit, is_dot, is_symbol, is_symbol_byte, symbol_len};

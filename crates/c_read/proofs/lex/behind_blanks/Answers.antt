@@ -1,11 +1,6 @@
-use Rattle.std.proofs.Common.{◌∙◌, ap, drop}
-use Rattle.std.proofs.lemmas.List.{take_rest}
-use Rattle.c_tree.specs.Lexical.{tokens}
-use Rattle.c_read.proofs.Lexing.{over_blanks}
+use Rattle.std.proofs.Common.{sym, ◌∙◌}
+use Rattle.c_read.proofs.Lexing.{blank_on}
 use Rattle.c_read.proofs.lex.behind_blanks.Goals as goal
 
-pub returns-clause-same : goal.returns-clause-same
-returns-clause-same c =
-    ap tokens (take_rest c.args.text.now c.blank_len.result)
-    ∙ ap (λ n. tokens (drop n c.args.text.now)) c.blank_len.ensures.value
-    ∙ over_blanks c.args.text.now
+pub loop-i-preserved : goal.loop-i-preserved
+loop-i-preserved c = blank_on c.args.text.now c.loop-i.i c.loop-i-test.true (sym c.tells_space.ensures ∙ c.if-not-tells_space.false) c.loop-i.invariant

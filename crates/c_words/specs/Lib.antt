@@ -1,0 +1,9 @@
+pub mod Fixed
+pub mod Kinds
+pub mod Letters
+pub mod Magnitudes
+pub mod Manglings
+pub mod Search
+pub mod Shapes
+pub mod Walks
+pub mod Words
