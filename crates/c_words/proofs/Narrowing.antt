@@ -1,11 +1,12 @@
 -- Rows in the order of their names that go on with a byte stand together, and are in order by what stands behind it.
-use Rattle.std.proofs.Common.{◌≡◌, ℕ, zero, suc, ◌<◌, ◌≤◌, ◌+◌, length, get_or, take, drop, List, [], ◌∷◌, Bool, true, false, Some, None, nat_eq, sym, ap, ◌∙◌, arith, find, refl, cond, subst}
+use Rattle.std.proofs.Common.{◌≡◌, ℕ, zero, suc, ◌<◌, ◌≤◌, ◌+◌, ◌-◌, length, get_or, take, drop, List, [], ◌∷◌, Bool, true, false, Some, None, nat_eq, sym, ap, ◌∙◌, arith, find, refl, cond, subst}
 use Rattle.std.specs.Prelude.{nat_lt, ◌&&◌, ◌||◌, slice_get}
 use Rattle.std.specs.List.{list_all, filter}
 use Rattle.std.specs.List.Sorted.{IsPartitionedBy, IsPartitionPoint}
 use Rattle.std.proofs.lemmas.Bool.{and_parts}
 use Rattle.std.proofs.lemmas.Bool.Decides.{nat_tests}
 use Rattle.std.proofs.lemmas.List.{get_or-drop, drop-drop, drop_all}
+use Rattle.std.proofs.lemmas.Option.{get_or_from_slice_get}
 use Rattle.scheme_data.specs.Names.{is_same}
 use Rattle.c_tree.specs.Names.{begins_with}
 use Rattle.c_words.specs.Search.{is_not_after, begins_below, behind, precedes_all, are_in_order, that_go_on, with_rest}
@@ -56,6 +57,10 @@ filter_take test [] (suc i) point = refl
 filter_take test (x ∷ xs) (suc i) point =
     ap (λ ys. x ∷ ys) (filter_take test xs i ((λ k d low high. point.0 (suc k) d (omega arith) (omega arith)), (λ k d low high. point.1 (suc k) d (omega arith) (omega arith))))
     ∙ sym (ap (λ b. cond b (x ∷ filter test xs) (filter test xs)) (point.0 0 x (omega arith) (omega arith)))
+
+filter_all : {T : Type 0} (test : T → Bool) (xs : List T) → ((k : ℕ) (d : T) → k < length xs → test (get_or xs k d) ≡ true) → xs ≡ filter test xs
+filter_all test [] h = refl
+filter_all test (x ∷ xs) h = ap (λ ys. x ∷ ys) (filter_all test xs (λ k d low. h (suc k) d (omega arith))) ∙ sym (ap (λ b. cond b (x ∷ filter test xs) (filter test xs)) (h 0 x (omega arith)))
 
 first_none : {T : Type 0} (rows : List T) → None ≡ slice_get rows 0 → rows ≡ []
 first_none [] e = refl
@@ -128,6 +133,33 @@ module _ {T : Type 0} (spelled : T → List ℕ) where
       filter_take (λ r. begins_with byte (behind spelled depth r)) rest end same
       ∙ ap (filter (λ r. begins_with byte (behind spelled depth r))) is
       ∙ filter_drop (λ r. begins_with byte (behind spelled depth r)) rows start (λ k d within. low_apart byte (behind spelled depth (get_or rows k d)) (low.0 k d (omega arith) within))
+
+  -- where the first and the last go on with a byte, all do
+  all_alike : (depth byte : ℕ) (rows : List T) (first last : T) → are_in_order spelled depth rows ≡ true → Some first ≡ slice_get rows 0 → Some last ≡ slice_get rows (length rows - 1)
+      → begins_with byte (behind spelled depth first) ≡ true → begins_with byte (behind spelled depth last) ≡ true → rows ≡ that_go_on spelled depth byte rows
+  all_alike depth byte rows first last order at_first at_last is_first is_last = filter_all (λ r. begins_with byte (behind spelled depth r)) rows
+      (λ k d within. same_parted depth byte rows rows 0 refl order ((λ i d low high. absurd (omega arith)), (λ i d low high. not_below i d high)) k (length rows - 1) d (omega arith) (omega arith)
+      (ap (λ r. begins_with byte (behind spelled depth r)) (get_or_from_slice_get rows (length rows - 1) last d (sym at_last)) ∙ is_last))
+    where
+      higher : (xs : List ℕ) → begins_with byte xs ≡ true → begins_below byte xs ≡ false
+      higher [] e = absurd (cc)
+      higher (x ∷ xs) e = grind (arith, nat_tests)
+
+      apart : (b c : Bool) → (b ≡ true → c ≡ true) → c ≡ false → b ≡ false
+      apart true c h e = absurd (let t = h refl in cc)
+      apart false c h e = refl
+
+      not_below : (i : ℕ) (d : T) → i < length rows → begins_below byte (behind spelled depth (get_or rows i d)) ≡ false
+      not_below i d within =
+          apart (begins_below byte (behind spelled depth (get_or rows i d))) (begins_below byte (behind spelled depth (get_or rows 0 d)))
+          (λ h. below_parted depth byte rows order 0 i d (omega arith) within h)
+          (ap (λ r. begins_below byte (behind spelled depth r)) (get_or_from_slice_get rows 0 first d (sym at_first)) ∙ higher (behind spelled depth first) is_first)
+
+  -- the same by what the code reads of both names
+  pub all_told : (depth byte : ℕ) (rows : List T) (first last : T) (first_name last_name : List ℕ) (is_first is_last : Bool) → are_in_order spelled depth rows ≡ true → Some first ≡ slice_get rows 0 → Some last ≡ slice_get rows (length rows - 1)
+      → first_name ≡ spelled first → last_name ≡ spelled last → is_first ≡ begins_with byte (drop depth first_name) → is_last ≡ begins_with byte (drop depth last_name) → is_first ≡ true → is_last ≡ true → rows ≡ that_go_on spelled depth byte rows
+  all_told depth byte rows first last first_name last_name is_first is_last order at_first at_last e f g h p q =
+      all_alike depth byte rows first last order at_first at_last (ap (λ n. begins_with byte (drop depth n)) (sym e) ∙ sym g ∙ p) (ap (λ n. begins_with byte (drop depth n)) (sym f) ∙ sym h ∙ q)
 
   -- One byte on -----------------------------------------------------------------------------
 

@@ -1,5 +1,5 @@
 // Tables by name, searched while the bytes of a word come.
-ghost use Rattle.std.specs.Prelude.{◌≡◌, ◌∷◌, [], ℕ, List, IsTrue, drop};
+ghost use Rattle.std.specs.Prelude.{◌≡◌, ◌∷◌, [], ℕ, List, IsTrue, drop, true};
 ghost use Rattle.c_tree.specs.Names.{begins_with};
 ghost use Rattle.c_words.specs.Walks.{ended};
 ghost use Rattle.c_words.specs.Search.{begins_below, behind, are_in_order, that_go_on, with_rest};
@@ -41,11 +41,31 @@ fn goes_on(name: &[u8], depth: usize, byte: u8) -> bool
     }
 }
 
+// Whether all names go on with this byte: between the first and the last no other can stand.
+fn all_go_on<T: Named>(rows: &[T], depth: usize, byte: u8) -> bool
+    requires { IsTrue (are_in_order T.spelled depth rows.now) }
+    ensures { result ≡ true → rows.now ≡ that_go_on T.spelled depth byte rows.now }
+{
+    let Some(first) = rows.first() else {
+        return false;
+    };
+    if !goes_on(first.name(), depth, byte) {
+        return false;
+    }
+    let Some(last) = rows.last() else {
+        return false;
+    };
+    goes_on(last.name(), depth, byte)
+}
+
 // The rows whose names go on with this byte.
 fn rows_with<T: Named>(rows: &'static [T], depth: usize, byte: u8) -> &'static [T]
     requires { IsTrue (are_in_order T.spelled depth rows.now) }
     ensures { result.now ≡ that_go_on T.spelled depth byte rows.now }
 {
+    if all_go_on(rows, depth, byte) {
+        return rows;
+    }
     let start = rows.partition_point(|row| is_below(row.name(), depth, byte));
     let rest = &rows[start..];
     let end = rest.partition_point(|row| goes_on(row.name(), depth, byte));
@@ -71,6 +91,7 @@ impl<T: Named> Search<T> {
         let Some(row) = self.rows.first() else {
             return;
         };
+        // It always is; so the sum is in range.
         if self.depth < row.name().len() {
             self.depth += 1;
         }
@@ -89,6 +110,7 @@ impl<T: Named> Search<T> {
             None
         }
     }
+
     /// The row whose name is the bytes so far and the rest of the word.
     pub fn find(mut self, cursor: &mut Cursor<'_>) -> Option<T>
         requires { IsTrue (are_in_order T.spelled self.depth self.rows.now) }
